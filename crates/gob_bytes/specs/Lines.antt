@@ -1,0 +1,56 @@
+-- The lines of a text. Each ends at a line feed; what stands after the last line feed belongs to no line.
+use Rattle.std.specs.Prelude.{ℕ, ◌+◌, Bool, true, false, cond, nat_eq, List, [], ◌∷◌, ◌++◌, map, length}
+
+-- where a line starts, and its bytes before its line feed
+pub record Line : Type 0 where
+  pub start : ℕ
+  pub body : List ℕ
+
+-- the line with its end
+abbrev pub raw_of : Line → List ℕ
+raw_of l = l.body ++ 10 ∷ []
+
+-- bytes without one carriage return at their end
+abbrev pub without_cr : List ℕ → List ℕ
+without_cr [] = []
+without_cr (b ∷ []) = cond (nat_eq b 13) [] (b ∷ [])
+without_cr (b ∷ c ∷ bs) = b ∷ without_cr (c ∷ bs)
+
+-- the line without its end: neither the line feed nor one carriage return before it
+abbrev pub text_of : Line → List ℕ
+text_of l = without_cr l.body
+
+-- the lines of a text whose first line began at start with the bytes begun
+unfoldable pub lines_from : ℕ → List ℕ → List ℕ → List Line
+lines_from start begun [] = []
+lines_from start begun (b ∷ bs) = cond (nat_eq b 10) (record { start = start; body = begun } ∷ lines_from (start + length begun + 1) [] bs) (lines_from start (begun ++ b ∷ []) bs)
+
+abbrev pub lines : List ℕ → List Line
+lines bytes = lines_from 0 [] bytes
+
+-- what stands after the last line feed, where the first line began with the bytes begun
+unfoldable pub rest_from : List ℕ → List ℕ → List ℕ
+rest_from begun [] = begun
+rest_from begun (b ∷ bs) = cond (nat_eq b 10) (rest_from [] bs) (rest_from (begun ++ b ∷ []) bs)
+
+abbrev pub rest : List ℕ → List ℕ
+rest bytes = rest_from [] bytes
+
+-- where that rest starts
+unfoldable pub start_from : ℕ → List ℕ → List ℕ → ℕ
+start_from start begun [] = start
+start_from start begun (b ∷ bs) = cond (nat_eq b 10) (start_from (start + length begun + 1) [] bs) (start_from start (begun ++ b ∷ []) bs)
+
+-- the offset after a line's end
+abbrev pub end_of : Line → ℕ
+end_of l = l.start + length l.body + 1
+
+-- the offsets after a line feed, rising
+abbrev pub line_ends : List ℕ → List ℕ
+line_ends bytes = map end_of (lines bytes)
+
+-- the text ends in a line feed
+abbrev pub ends_in_lf : List ℕ → Bool
+ends_in_lf [] = false
+ends_in_lf (b ∷ []) = nat_eq b 10
+ends_in_lf (b ∷ c ∷ bs) = ends_in_lf (c ∷ bs)
