@@ -1,0 +1,143 @@
+-- What a volume holds, what a call makes of it, and what a crash leaves of it.
+use Rattle.std.specs.Prelude.{◌≡◌, ◌≢◌, ◌⊎◌, ◌↔◌, ℕ, Bool, true, cond, List, [], ◌∷◌, ◌++◌, Contains, OnOk, OnErr, IsSome}
+use Rattle.std.specs.declared.option.Option.{Option}
+use Rattle.std.specs.declared.option.Option.TheVariants.{None, Some}
+use Rattle.std.specs.declared.result.Result.{Result}
+use Rattle.std.specs.Prelude.{option_map}
+use Rattle.std.specs.Str.{bytes_eq}
+use Rattle.gob_bytes.specs.Paths.{begins_with}
+use Rattle.gob_bytes.specs.Tables.{Rising}
+
+-- a file: all of it is kept, or a crash may lose what is loose
+pub data File : Type 0 where
+  clean : List ℕ → File
+  dirty : (kept loose : List ℕ) → File
+
+abbrev pub kept_of : File → List ℕ
+kept_of (clean bytes) = bytes
+kept_of (dirty kept loose) = kept
+
+-- what the file reads as
+abbrev pub contents_of : File → List ℕ
+contents_of (clean bytes) = bytes
+contents_of (dirty kept loose) = kept ++ loose
+
+-- names to files
+abbrev pub Files : Type 0
+Files = List ℕ → Option File
+
+abbrev pub no_files : Files
+no_files name = None
+
+abbrev pub contents_at : Files → List ℕ → Option (List ℕ)
+contents_at m name = option_map contents_of (m name)
+
+-- this name stands for this file, or for none
+abbrev pub put : Files → List ℕ → Option File → Files
+put m name file = λ other. cond (bytes_eq other name) file (m other)
+
+-- bytes at the end of a file, which may be lost; no bytes change nothing
+abbrev pub with_more : List ℕ → File → File
+with_more [] file = file
+with_more (b ∷ bs) (clean bytes) = dirty bytes (b ∷ bs)
+with_more (b ∷ bs) (dirty kept loose) = dirty kept (loose ++ b ∷ bs)
+
+-- all of a file is kept
+abbrev pub kept_whole : File → File
+kept_whole file = clean (contents_of file)
+
+-- what each changing call makes of the map
+unfoldable pub created : List ℕ → Files → Files
+created name m = put m name (Some (clean []))
+
+unfoldable pub appended : List ℕ → List ℕ → Files → Files
+appended name bytes m = put m name (option_map (with_more bytes) (m name))
+
+unfoldable pub synced : List ℕ → Files → Files
+synced name m = put m name (option_map kept_whole (m name))
+
+unfoldable pub renamed : List ℕ → List ℕ → Files → Files
+renamed source target m = put (put m source None) target (m source)
+
+unfoldable pub removed : List ℕ → Files → Files
+removed name m = put m name None
+
+-- a volume that tells: the map that stands, and the maps that stood, one for each changing call
+pub record Disk : Type 0 where
+  pub files : Files
+  pub trail : List Files
+
+-- a changing call that was answered
+abbrev pub changed : (Files → Files) → Disk → Disk
+changed step d = record { files = step d.files; trail = d.trail ++ step d.files ∷ [] }
+
+-- a failed create, rename or remove leaves the map before or the map after
+abbrev pub Whole : (Files → Files) → Files → Files → Type 0
+Whole step m n = (n ≡ m) ⊎ (n ≡ step m)
+
+-- nothing but this name differs
+abbrev pub OnlyAt : List ℕ → Files → Files → Type 0
+OnlyAt name m n = (other : List ℕ) → other ≢ name → n other ≡ m other
+
+-- a failed append or sync leaves the kept bytes as before or after the call, and any loose ones
+pub record Torn (name : List ℕ) (step : Files → Files) (m n : Files) : Type 0 where
+  pub others : OnlyAt name m n
+  pub kept : (option_map kept_of (n name) ≡ option_map kept_of (m name)) ⊎ (option_map kept_of (n name) ≡ option_map kept_of (step m name))
+
+-- a failed changing call: the trail has the map that it left, or has nothing more where the map is as it was
+pub record FailedChange (failed : Files → Files → Type 0) (d e : Disk) : Type 0 where
+  pub files : failed d.files e.files
+  pub trail : (e.trail ≡ d.trail ++ e.files ∷ []) ⊎ ((e.trail ≡ d.trail) × (e.files ≡ d.files))
+
+-- of two devices that both tell; a device that doesn't tell never begins to
+abbrev pub Both : {A : Type 0} → (A → A → Type 0) → Option A → Option A → Type 0
+Both R None None = Unit {0}
+Both R (Some a) (Some b) = R a b
+Both R None (Some b) = ⊥
+Both R (Some a) None = ⊥
+
+-- a changing call, whatever it answers
+pub record Changes {T E : Type 0} (step : Files → Files) (failed : Files → Files → Type 0) (old new : Option Disk) (result : Result T E) : Type 0 where
+  pub ok : OnOk result (new ≡ option_map (changed step) old)
+  pub err : OnErr result (Both (FailedChange failed) old new)
+
+-- the names are exactly those with this front, in byte order
+pub record IsListing (front : List ℕ) (m : Files) (names : List (List ℕ)) : Type 0 where
+  pub rising : Rising names
+  pub exact : (name : List ℕ) → Contains names name ↔ ((begins_with front name ≡ true) × IsSome (m name))
+
+-- what a crash leaves of a file: a clean one reads exactly, a dirty one has its kept bytes and then any
+abbrev pub FileImage : Option File → Option File → Type 0
+FileImage None None = Unit {0}
+FileImage (Some (clean bytes)) (Some (clean left)) = left ≡ bytes
+FileImage (Some (dirty kept loose)) (Some (clean left)) = (tail : List ℕ) × (left ≡ kept ++ tail)
+FileImage None (Some f) = ⊥
+FileImage (Some f) None = ⊥
+FileImage (Some f) (Some (dirty kept loose)) = ⊥
+
+-- what a crash leaves of a map: the same names, each with an image of its file
+unfoldable pub Image : Files → Files → Type 0
+Image m image = (name : List ℕ) → FileImage (m name) (image name)
+
+-- holds of every image of the map
+abbrev pub EveryImage : (Files → Type 0) → Files → Type 0
+EveryImage P m = (image : Files) → Image m image → P image
+
+abbrev pub EachOf : (Files → Type 0) → List Files → Type 0
+EachOf P [] = Unit {0}
+EachOf P (m ∷ ms) = P m × EachOf P ms
+
+-- a run of calls that tells: maps were added, and each of them, the last too, has R to the first
+pub record Went (R : Files → Files → Type 0) (d e : Disk) : Type 0 where
+  pub added : List Files
+  pub trail : e.trail ≡ d.trail ++ added
+  pub each : EachOf (R d.files) added
+  pub last : R d.files e.files
+
+unfoldable pub Along : (Files → Files → Type 0) → Option Disk → Option Disk → Type 0
+Along R old new = Both (Went R) old new
+
+-- the maps come in as many stretches as the list has members, some of them empty: all of the first have P of the first member, and so on
+unfoldable pub Rises : {X : Type 0} → (X → Files → Type 0) → List X → List Files → Type 0
+Rises P [] ms = ms ≡ []
+Rises P (x ∷ xs) ms = (here : List Files) × (later : List Files) × (ms ≡ here ++ later) × EachOf (P x) here × Rises P xs later
