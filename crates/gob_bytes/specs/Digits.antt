@@ -1,5 +1,5 @@
 -- Numbers as they are written with a fixed width.
-use Rattle.std.specs.Prelude.{ℕ, zero, suc, ◌+◌, ◌/◌, ◌%◌, List, [], ◌∷◌, ◌++◌}
+use Rattle.std.specs.Prelude.{◌≡◌, ℕ, zero, suc, ◌+◌, ◌/◌, ◌%◌, ◌^◌, ◌<◌, List, [], ◌∷◌, ◌++◌, length}
 
 -- the last so many digits of a number, with zeros in front
 abbrev pub padded : ℕ → ℕ → List ℕ
@@ -9,3 +9,7 @@ padded (suc k) n = padded k (n / 10) ++ (48 + n % 10) ∷ []
 -- an offset: twenty digits
 unfoldable pub offset : ℕ → List ℕ
 offset n = padded 20 n
+
+-- an offset has twenty digits, and two offsets below 10^20 that are written alike are one
+abbrev pub OffsetsHaveOneForm : Type 0
+OffsetsHaveOneForm = ((n : ℕ) → length (offset n) ≡ 20) × ((m n : ℕ) → m < 10 ^ 20 → n < 10 ^ 20 → offset m ≡ offset n → m ≡ n)

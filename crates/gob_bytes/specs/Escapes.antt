@@ -1,5 +1,5 @@
 -- Names as they are escaped: every byte but letters, digits, '.', '_' and '-' as '%' and two upper-case digits.
-use Rattle.std.specs.Prelude.{ℕ, Bool, cond, ◌&&◌, ◌||◌, nat_eq, nat_le, List, [], ◌∷◌}
+use Rattle.std.specs.Prelude.{◌≡◌, ℕ, ◌<◌, Bool, cond, ◌&&◌, ◌||◌, nat_eq, nat_le, List, [], ◌∷◌, All}
 use Rattle.std.specs.List.{flat_map}
 use Rattle.percent_encoding.specs.Percent.{percent_encode_byte}
 
@@ -15,3 +15,11 @@ is_plain b = is_letter b || is_digit b || nat_eq b 46 || nat_eq b 95 || nat_eq b
 
 unfoldable pub escaped : List ℕ → List ℕ
 escaped name = flat_map (λ b. cond (is_plain b) (b ∷ []) (percent_encode_byte b)) name
+
+-- numbers that are bytes
+abbrev pub AreBytes : List ℕ → Type 0
+AreBytes bs = All (λ b. b < 256) bs
+
+-- two names that are escaped alike are one
+abbrev pub EscapesTellNamesApart : Type 0
+EscapesTellNamesApart = (x y : List ℕ) → AreBytes x → AreBytes y → escaped x ≡ escaped y → x ≡ y

@@ -1,5 +1,9 @@
 -- The lines of a text. Each ends at a line feed; what stands after the last line feed belongs to no line.
-use Rattle.std.specs.Prelude.{ℕ, ◌+◌, Bool, true, false, cond, nat_eq, List, [], ◌∷◌, ◌++◌, map, length}
+use Rattle.std.specs.Prelude.{◌≡◌, ℕ, ◌+◌, ◌≤◌, Bool, false, cond, nat_eq, List, [], ◌∷◌, ◌++◌, map, length, All}
+use Rattle.std.specs.declared.option.Option.{Option}
+use Rattle.std.specs.declared.option.Option.TheVariants.{None}
+use Rattle.std.specs.List.{flat_map, slice_get, last_or}
+use Rattle.std.specs.List.Sorted.{IsStrictlyIncreasing}
 
 -- where a line starts, and its bytes before its line feed
 pub record Line : Type 0 where
@@ -49,8 +53,28 @@ end_of l = l.start + length l.body + 1
 abbrev pub line_ends : List ℕ → List ℕ
 line_ends bytes = map end_of (lines bytes)
 
+-- the offset after the first line feed, if there is one
+abbrev pub first_end : List ℕ → Option ℕ
+first_end bytes = slice_get (line_ends bytes) 0
+
+-- the offset after the last line feed, if there is one
+abbrev pub last_end : List ℕ → Option ℕ
+last_end bytes = last_or None (line_ends bytes)
+
 -- the text ends in a line feed
 abbrev pub ends_in_lf : List ℕ → Bool
 ends_in_lf [] = false
 ends_in_lf (b ∷ []) = nat_eq b 10
 ends_in_lf (b ∷ c ∷ bs) = ends_in_lf (c ∷ bs)
+
+-- the lines of a text in two pieces are those of the first, and then those that go on from its rest
+pub record LinesJoin (x y : List ℕ) : Type 0 where
+  pub lines : lines_from 0 [] (x ++ y) ≡ lines_from 0 [] x ++ lines_from (start_from 0 [] x) (rest_from [] x) y
+  pub rest : rest_from [] (x ++ y) ≡ rest_from (rest_from [] x) y
+
+-- the ends of a text's lines rise and lie within it, and its lines and its rest are the whole text
+pub record LinesFill (bytes : List ℕ) : Type 0 where
+  pub rising : IsStrictlyIncreasing (line_ends bytes)
+  pub within : All (λ e. e ≤ length bytes) (line_ends bytes)
+  pub start : start_from 0 [] bytes + length (rest bytes) ≡ length bytes
+  pub whole : flat_map raw_of (lines bytes) ++ rest bytes ≡ bytes
