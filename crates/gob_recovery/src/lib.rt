@@ -1,0 +1,14 @@
+//! Commit sequences and what settling makes of a map of files: definitions and their laws. No function works here.
+#![tactic(auto)]
+
+ghost use Rattle.gob_recovery.specs.Laws.{ImagesSettleAlike, SettlingCanBeRepeated};
+
+/// A sequence that was stopped after any number of its steps is settled as if it had not been begun.
+pub fn settling_can_be_repeated()
+    ensures { SettlingCanBeRepeated }
+{}
+
+/// Whatever a crash leaves of a map settles to what a crash might leave of the settled map.
+pub fn images_settle_alike()
+    ensures { ImagesSettleAlike }
+{}
