@@ -34,9 +34,12 @@ given held part at len = take len (drop at (bytes_at held part))
 abbrev pub listing_of : Held → List (List ℕ × ℕ)
 listing_of held = map (λ e. (e.0, length e.1)) held
 
--- a line feed for each line feed, and 0 for every other byte
+-- a line feed for a line feed, and 0 for every other byte
+abbrev pub line_end_or_zero : ℕ → ℕ
+line_end_or_zero b = cond (nat_eq b 10) 10 0
+
 unfoldable pub looked : List ℕ → List ℕ
-looked bytes = map (λ b. cond (nat_eq b 10) 10 0) bytes
+looked bytes = map line_end_or_zero bytes
 
 -- the front of a buffer holds these bytes, and the answer is their number
 pub record Fills (buffer : List ℕ) (answer : ℕ) (bytes : List ℕ) : Type 0 where

@@ -1,8 +1,13 @@
 //! Where records come from and where texts go: sources of growing partitions, and sinks of bytes.
 #![tactic(auto)]
 
+mod dir_source;
+mod listing;
 mod sink;
 mod source;
+mod std_sink;
 
+pub use dir_source::DirSource;
 pub use sink::Sink;
 pub use source::{ListFault, Part, Source};
+pub use std_sink::StdSink;
