@@ -3,7 +3,7 @@ use Rattle.std.proofs.Common.{◌≡◌, true, false, [], Some, None, refl, pos,
 use Rattle.std.specs.Prelude.{codes}
 use Rattle.gob_bytes.specs.Numbers.{number_read, integer_read}
 use Rattle.gob_bytes.specs.Names.{is_job_name, is_column_name}
-use Rattle.gob_bytes.specs.Digits.{offset}
+use Rattle.gob_bytes.specs.Digits.{padded, offset}
 use Rattle.gob_bytes.specs.Escapes.{escaped}
 use Rattle.percent_encoding.specs.Percent.{percent_encode_byte}
 
@@ -36,5 +36,5 @@ unfolding is_column_name
 columns = (refl, refl, refl, refl, refl)
 
 pub written : (offset 4 ≡ codes "00000000000000000004") × (escaped (codes "web1/a b.log") ≡ codes "web1%2Fa%20b.log")
-unfolding offset escaped percent_encode_byte
+unfolding padded offset escaped percent_encode_byte
 written = (refl, refl)

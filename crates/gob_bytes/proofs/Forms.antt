@@ -1,10 +1,12 @@
 -- What is written of a number or a name has one form.
-use Rattle.std.proofs.Common.{◌≡◌, ℕ, zero, suc, ◌-◌, ◌/◌, ◌^◌, ◌<◌, ◌≤◌, true, false, nat_le, ◌&&◌, List, [], ◌∷◌, ◌++◌, length, get_or, Some, refl, sym, ap, ◌∙◌, arith, ⊎_elim, length-append}
+use Rattle.std.proofs.Common.{◌≡◌, ℕ, zero, suc, ◌-◌, ◌/◌, ◌^◌, ◌<◌, ◌≤◌, true, false, nat_le, ◌&&◌, List, [], ◌∷◌, ◌++◌, length, get_or, Some, refl, sym, ap, ◌∙◌, subst, ltb, arith, IsUtf8, ⊎_elim, length-append}
 use Rattle.std.specs.Fmt.{decimal}
 use Rattle.std.specs.Str.{all_ascii_digits}
 use Rattle.std.specs.Str.Parse.{digits_value}
-use Rattle.std.proofs.lemmas.Bool.{cases_eq, cond_both, cond-true, cond-false, both_ways, and_parts, and_from, leb-true, le-leb, eqb-false, ne_eqb, true≢false}
-use Rattle.std.proofs.lemmas.List.Elements.{All-head, All-tail}
+use Rattle.std.proofs.lemmas.Bool.{cases_eq, cond_both, ltb-true, cond-true, cond-false, both_ways, and_parts, and_from, leb-true, le-leb, eqb-false, ne_eqb, true≢false}
+use Rattle.std.proofs.lemmas.List.Elements.{All-head, All-tail, All-nil, All-append, All-from_recursion}
+use Rattle.std.specs.List.{AllByRecursion}
+use lib.Utf8.{scalar, scalars, encode, encodes, scalar_cases}
 use Rattle.std.proofs.lemmas.Str.Parse.{IsNumeralModel, numerals_by_value, tells_all_ascii_digits}
 use Rattle.std.proofs.lemmas.Fmt.{decimal-digits_value, digits_decimal, digits_value-decimal, decimal_nonempty, first_decimal, decimal_digit}
 use Rattle.percent_encoding.specs.Percent.{percent_encode_byte, percent_decode}
@@ -73,7 +75,8 @@ one_form bs n = (
 
 -- ---- names
 
-unescaped : (bs : List ℕ) → AreBytes bs → percent_decode (escaped bs) ≡ bs
+-- what a name is escaped to decodes to the name
+pub unescaped : (bs : List ℕ) → AreBytes bs → percent_decode (escaped bs) ≡ bs
 unfolding escaped
 unescaped [] small = percent_decode-nil
 unescaped (b ∷ bs) small =
@@ -88,6 +91,7 @@ escapes_apart x y small small' same = sym (unescaped x small) ∙ ap percent_dec
 -- ---- offsets
 
 length-padded : (k n : ℕ) → length (padded k n) ≡ k
+unfolding padded
 length-padded zero n = refl
 length-padded (suc k) n = let shorter = length-padded k (n / 10) in simp length-append (omega arith)
 
@@ -102,6 +106,7 @@ push_apart (b ∷ xs) (c ∷ ys) x y same =
     let parts = push_apart xs ys x y rest in (cc, parts.1)
 
 padded_apart : (k m n : ℕ) → m < 10 ^ k → n < 10 ^ k → padded k m ≡ padded k n → m ≡ n
+unfolding padded
 padded_apart zero m n below below' same = omega arith
 padded_apart (suc k) m n below below' same =
     let parts = push_apart (padded k (m / 10)) (padded k (n / 10)) _ _ same in
@@ -111,3 +116,26 @@ padded_apart (suc k) m n below below' same =
 pub offsets_one_form : OffsetsHaveOneForm
 unfolding offset
 offsets_one_form = (length-padded 20, padded_apart 20)
+
+-- ---- texts are bytes
+
+encoded_bytes : (c : ℕ) → scalar c ≡ true → AllByRecursion IsByte (encode c)
+unfolding encode
+encoded_bytes c valid =
+    let small : c < 1114112 = ⊎_elim (λ h. omega arith) (λ h. h.1) (scalar_cases c valid) in
+    cond_both (ltb c 128) _ _ (AllByRecursion IsByte)
+    (λ e. let h = ltb-true c 128 e in (omega arith, tt))
+    (λ _. cond_both (ltb c 2048) _ _ (AllByRecursion IsByte)
+    (λ e. let h = ltb-true c 2048 e in (omega arith, (omega arith, tt)))
+    (λ _. cond_both (ltb c 65536) _ _ (AllByRecursion IsByte)
+    (λ e. let h = ltb-true c 65536 e in (omega arith, (omega arith, (omega arith, tt))))
+    (λ _. (omega arith, (omega arith, (omega arith, (omega arith, tt)))))))
+
+all_encoded_bytes : (cs : List ℕ) → scalars cs ≡ true → AreBytes (encodes cs)
+all_encoded_bytes [] valid = All-nil IsByte
+all_encoded_bytes (c ∷ cs) valid =
+    let parts = and_parts (scalar c) (scalars cs) valid in
+    All-append IsByte (encode c) (encodes cs) (All-from_recursion IsByte (encode c) (encoded_bytes c parts.0)) (all_encoded_bytes cs parts.1)
+
+pub bytes_from_utf8 : (bs : List ℕ) → IsUtf8 bs → AreBytes bs
+bytes_from_utf8 bs h = subst AreBytes h.1.1 (all_encoded_bytes h.0 h.1.0)

@@ -6,3 +6,4 @@ pub mod Names
 pub mod Paths
 pub mod Words
 pub mod Tables
+pub mod Additions
