@@ -1,0 +1,155 @@
+-- What the bytes of a unit make: the lines in order, what goes where, the counts, and where they stop.
+use Rattle.std.specs.Prelude.{ℕ, ◌+◌, ◌-◌, ◌^◌, min, Bool, true, false, cond, ◌&&◌, nat_eq, List, [], ◌∷◌, map, filter, flat_map, count_by, sum_by, length}
+use Rattle.std.specs.declared.option.Option.{Option}
+use Rattle.std.specs.declared.option.Option.TheVariants.{None, Some}
+use Rattle.std.specs.Option.{option_map}
+use Rattle.std.specs.List.{range_with_len}
+use Rattle.std.specs.Str.{bytes_eq}
+use Rattle.gob_bytes.specs.Lines.{Line, lines}
+use Rattle.gob_plan.specs.declared.plan.Plan.{Plan}
+use Rattle.gob_plan.specs.declared.units.BranchCounts.{BranchCounts}
+use Rattle.gob_plan.specs.declared.units.Counts.{Counts}
+use Rattle.gob_plan.specs.declared.units.Cause.{Cause}
+use Rattle.gob_plan.specs.declared.units.Cause.TheVariants.{Kill, BadRecords}
+use Rattle.gob_meaning.specs.Items.{Target, out, err, bad, End, written, error, killed, Item, LineMade, nothing, refused, made, line_made}
+
+-- a line with its offset in the partition
+pub record Folded : Type 0 where
+  pub at : ℕ
+  pub made : LineMade
+
+abbrev pub folded_line : Plan → ℕ → Line → Folded
+folded_line plan lo l = record { at = lo + l.start; made = line_made plan (lo + l.start) l }
+
+unfoldable pub unit_fold : Plan → ℕ → List ℕ → List Folded
+unit_fold plan lo bytes = map (folded_line plan lo) (lines bytes)
+
+-- the pieces that a line sends, each with its target
+pub record Piece : Type 0 where
+  pub target : Target
+  pub bytes : List ℕ
+
+abbrev pub piece_of : Item → List Piece
+piece_of i = sent i.end
+  where
+    sent : End → List Piece
+    sent (written bytes) = record { target = out i.branch i.place; bytes = bytes } ∷ []
+    sent (error bytes) = record { target = err i.branch i.place; bytes = bytes } ∷ []
+    sent (killed policy) = []
+
+abbrev pub line_pieces : LineMade → List Piece
+line_pieces nothing = []
+line_pieces (refused raw) = record { target = bad; bytes = raw } ∷ []
+line_pieces (made m) = flat_map piece_of m.items
+
+abbrev pub pieces_of : List Folded → List Piece
+pieces_of fold = flat_map (λ f. line_pieces f.made) fold
+
+abbrev pub same_target : Target → Target → Bool
+same_target (out b p) (out c q) = nat_eq b c && bytes_eq p q
+same_target (err b p) (err c q) = nat_eq b c && bytes_eq p q
+same_target bad bad = true
+same_target (out b p) (err c q) = false
+same_target (out b p) bad = false
+same_target (err b p) (out c q) = false
+same_target (err b p) bad = false
+same_target bad (out c q) = false
+same_target bad (err c q) = false
+
+-- the bytes that go to a target, joined in order; a target without bytes has no file
+unfoldable pub sent_to : Target → List Piece → List ℕ
+sent_to t pieces = flat_map (λ p. cond (same_target t p.target) p.bytes []) pieces
+
+-- sums that stop at the end of a u64
+abbrev pub capped : ℕ → ℕ
+capped n = min n (2 ^ 64 - 1)
+
+abbrev pub items_in : LineMade → List Item
+items_in nothing = []
+items_in (refused raw) = []
+items_in (made m) = m.items
+
+abbrev pub is_record : LineMade → Bool
+is_record nothing = false
+is_record (refused raw) = true
+is_record (made m) = true
+
+abbrev pub is_bad : LineMade → Bool
+is_bad nothing = false
+is_bad (refused raw) = true
+is_bad (made m) = false
+
+abbrev pub rows_in : LineMade → ℕ
+rows_in nothing = 0
+rows_in (refused raw) = 0
+rows_in (made m) = m.rows
+
+abbrev pub unrouted_in : LineMade → ℕ
+unrouted_in nothing = 0
+unrouted_in (refused raw) = 0
+unrouted_in (made m) = m.unrouted
+
+abbrev pub is_written : End → Bool
+is_written (written bytes) = true
+is_written (error bytes) = false
+is_written (killed policy) = false
+
+abbrev pub is_error : End → Bool
+is_error (written bytes) = false
+is_error (error bytes) = true
+is_error (killed policy) = false
+
+abbrev pub in_branch : ℕ → List Folded → List Item
+in_branch b fold = filter (λ i. nat_eq i.branch b) (flat_map (λ f. items_in f.made) fold)
+
+abbrev pub branch_counts : List Folded → ℕ → BranchCounts
+branch_counts fold b = record {
+  written = capped (count_by (λ i. is_written i.end) (in_branch b fold));
+  errors = capped (count_by (λ i. is_error i.end) (in_branch b fold));
+  optional = capped (sum_by (λ i. i.optional) (in_branch b fold));
+}
+
+unfoldable pub counts_of : Plan → List Folded → Counts
+counts_of plan fold = record {
+  records = capped (count_by (λ f. is_record f.made) fold);
+  bad = capped (count_by (λ f. is_bad f.made) fold);
+  rows = capped (sum_by (λ f. rows_in f.made) fold);
+  unrouted = capped (sum_by (λ f. unrouted_in f.made) fold);
+  branches = map (branch_counts fold) (range_with_len 0 (length plan.branches));
+}
+
+-- the first kill of a line
+abbrev pub kill_or : ℕ → End → Option (ℕ × ℕ) → Option (ℕ × ℕ)
+kill_or branch (written bytes) later = later
+kill_or branch (error bytes) later = later
+kill_or branch (killed policy) later = Some (branch, policy)
+
+abbrev pub first_kill : List Item → Option (ℕ × ℕ)
+first_kill [] = None
+first_kill (i ∷ items) = kill_or i.branch i.end (first_kill items)
+
+-- why a line stops the unit, where so many bad ones may still pass
+abbrev pub line_stop : ℕ → ℕ → LineMade → Option Cause
+line_stop left at nothing = None
+line_stop left at (refused raw) = cond (nat_eq left 0) (Some (BadRecords at)) None
+line_stop left at (made m) = option_map (λ k. Kill k.0 k.1 at) (first_kill m.items)
+
+abbrev pub stops_or : {A : Type 0} → Option Cause → (Cause → A) → A → A
+stops_or None here later = later
+stops_or (Some c) here later = here c
+
+-- the first line that stops
+abbrev pub stop_from : ℕ → List Folded → Option Cause
+stop_from left [] = None
+stop_from left (f ∷ fs) = stops_or (line_stop left f.at f.made) (λ c. Some c) (stop_from (left - cond (is_bad f.made) 1 0) fs)
+
+-- the lines before it
+abbrev pub before_stop_from : ℕ → List Folded → List Folded
+before_stop_from left [] = []
+before_stop_from left (f ∷ fs) = stops_or (line_stop left f.at f.made) (λ c. []) (f ∷ before_stop_from (left - cond (is_bad f.made) 1 0) fs)
+
+unfoldable pub stop_of : Plan → List Folded → Option Cause
+stop_of plan fold = stop_from plan.skip_errors fold
+
+unfoldable pub before_stop : Plan → List Folded → List Folded
+before_stop plan fold = before_stop_from plan.skip_errors fold

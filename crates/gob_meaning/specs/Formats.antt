@@ -1,0 +1,120 @@
+-- How a line is read as rows and how a row is written as a record, by format.
+use Rattle.std.specs.Prelude.{ℕ, cond, nat_eq, List, [], ◌∷◌, ◌++◌, map}
+use Rattle.std.specs.declared.option.Option.{Option}
+use Rattle.std.specs.declared.option.Option.TheVariants.{None, Some}
+use Rattle.std.specs.Option.{option_map, option_and_then}
+use Rattle.std.specs.List.{list_any}
+use Rattle.std.specs.Str.{is_utf8}
+use Rattle.gob_convert.specs.Made.{Made, made_each}
+use Rattle.csv.specs.Reading.{default_config, strip_bom, records}
+use Rattle.csv.specs.Writing.{default_writer, row_text}
+use Rattle.serde_json.specs.Data as json
+use Rattle.serde_json.specs.Read.{read}
+use Rattle.serde_json.specs.Find.{as_i64, as_object, get_member, of_integer}
+use Rattle.serde_json.specs.Written.{compact_text}
+use Rattle.gob_plan.specs.declared.plan.Format.{Format}
+use Rattle.gob_plan.specs.declared.plan.Format.TheVariants as format
+use Rattle.gob_plan.specs.declared.rows.Kind.{Kind}
+use Rattle.gob_plan.specs.declared.rows.Kind.TheVariants as kind
+use Rattle.gob_plan.specs.declared.rows.Value.{Value}
+use Rattle.gob_plan.specs.declared.rows.Value.TheVariants as value
+use Rattle.gob_plan.specs.declared.rows.Column.{Column}
+use Rattle.gob_plan.specs.declared.rows.Row.{Row}
+use Rattle.gob_meaning.specs.Values.{value_read, value_text}
+
+-- one row with these values, where they are there
+abbrev pub row_of : Option (List Value) → Made Row
+row_of values = option_map (λ vs. record { values = vs } ∷ []) values
+
+-- a value before the others, where all are there
+abbrev pub value_before : Option Value → Option (List Value) → Option (List Value)
+value_before None vs = None
+value_before (Some v) None = None
+value_before (Some v) (Some vs) = Some (v ∷ vs)
+
+-- ---- lines
+
+-- the whole line is one text
+abbrev pub lines_decoded : List ℕ → Made Row
+lines_decoded line = row_of (cond (is_utf8 line) (Some (value.Text line ∷ [])) None)
+
+-- one text without a line feed, and a line feed
+abbrev pub lines_encoded : List Value → Option (List ℕ)
+lines_encoded (value.Text t ∷ []) = cond (list_any (λ b. nat_eq b 10) t) None (Some (t ++ 10 ∷ []))
+lines_encoded _ = None
+
+-- ---- csv
+
+-- a field of a column: an empty one is Null but for text
+abbrev pub field_value : Kind → List ℕ → Option Value
+field_value kind.Text field = Some (value.Text field)
+field_value k [] = Some value.Null
+field_value k (b ∷ bs) = value_read k (b ∷ bs)
+
+-- the values of a record: as many fields as columns, each UTF-8 and of its column's kind
+abbrev pub field_values : List Column → List (List ℕ) → Option (List Value)
+field_values [] [] = Some []
+field_values [] (f ∷ fs) = None
+field_values (c ∷ cs) [] = None
+field_values (c ∷ cs) (f ∷ fs) = value_before (cond (is_utf8 f) (field_value c.kind f) None) (field_values cs fs)
+
+-- the records that csv reads in the line, as an input of its own
+abbrev pub csv_decoded : List Column → List ℕ → Made Row
+csv_decoded columns line = made_each (λ fields. row_of (field_values columns fields)) (records default_config (strip_bom line))
+
+-- the record that csv writes; Null is an empty field
+abbrev pub csv_encoded : List Value → List ℕ
+csv_encoded values = row_text default_writer (map value_text values)
+
+-- ---- json
+
+-- a member of an object as a value of a column's kind; null is Null
+abbrev pub member_value : Kind → json.Data → Option Value
+member_value k json.null = Some value.Null
+member_value kind.Bool (json.boolean b) = Some (value.Bool b)
+member_value kind.Int (json.number n) = option_map value.Int (as_i64 n)
+member_value kind.Text (json.string s) = Some (value.Text s)
+member_value _ _ = None
+
+-- the same where the object may lack the member
+abbrev pub member_or_null : Kind → Option json.Data → Option Value
+member_or_null k None = Some value.Null
+member_or_null k (Some d) = member_value k d
+
+abbrev pub member_values : List Column → json.Members → Option (List Value)
+member_values [] ms = Some []
+member_values (c ∷ cs) ms = value_before (member_or_null c.kind (get_member c.name ms)) (member_values cs ms)
+
+-- an empty line makes no row; else the line is one object, whose other members are passed over
+abbrev pub json_decoded : List Column → List ℕ → Made Row
+json_decoded columns [] = Some []
+json_decoded columns (b ∷ bs) = cond (is_utf8 (b ∷ bs)) (row_of (option_and_then (member_values columns) (option_and_then as_object (read (b ∷ bs))))) None
+
+abbrev pub value_data : Value → json.Data
+value_data value.Null = json.null
+value_data (value.Bool b) = json.boolean b
+value_data (value.Int n) = json.number (of_integer n)
+value_data (value.Text t) = json.string t
+
+-- the members of an object in byte order of names
+abbrev pub members_of : List Column → List Value → json.Members
+members_of [] vs = json.no_members
+members_of (c ∷ cs) [] = json.no_members
+members_of (c ∷ cs) (v ∷ vs) = json.put c.name (value_data v) (members_of cs vs)
+
+abbrev pub json_encoded : List Column → List Value → List ℕ
+json_encoded columns values = compact_text (json.object (members_of columns values)) ++ 10 ∷ []
+
+-- ---- all of them
+
+-- the rows that a line is, or Bad
+unfoldable pub decoded : Format → List Column → List ℕ → Made Row
+decoded format.Lines columns line = lines_decoded line
+decoded format.Csv columns line = csv_decoded columns line
+decoded format.Json columns line = json_decoded columns line
+
+-- the record that a row is, with its line feed, or Bad
+unfoldable pub encoded : Format → List Column → Row → Option (List ℕ)
+encoded format.Lines columns row = lines_encoded row.values
+encoded format.Csv columns row = Some (csv_encoded row.values)
+encoded format.Json columns row = Some (json_encoded columns row.values)

@@ -1,0 +1,11 @@
+pub mod Values
+pub mod Formats
+pub mod Steps
+pub mod Policies
+pub mod Fork
+pub mod Items
+pub mod Fold
+pub mod Results
+pub mod Names
+pub mod Plans
+pub mod Job

@@ -1,0 +1,67 @@
+-- What becomes of a unit.
+use Rattle.std.specs.Prelude.{ℕ, ◌*◌, Bool, cond, not, ◌&&◌, nat_le, List, [], ◌∷◌, map, filter}
+use Rattle.std.specs.declared.option.Option.{Option}
+use Rattle.std.specs.declared.option.Option.TheVariants.{None, Some}
+use Rattle.std.specs.Option.{option_map, unwrap_or}
+use Rattle.std.specs.List.{slice_get, enumerate_from}
+use Rattle.gob_bytes.specs.Lines.{ends_in_lf}
+use Rattle.gob_plan.specs.declared.plan.Counter.{Counter}
+use Rattle.gob_plan.specs.declared.plan.Counter.TheVariants as counter
+use Rattle.gob_plan.specs.declared.plan.TaskRule.{TaskRule}
+use Rattle.gob_plan.specs.declared.plan.TaskRule.TheVariants.{Range, Share}
+use Rattle.gob_plan.specs.declared.plan.TaskPolicy.{TaskPolicy}
+use Rattle.gob_plan.specs.declared.plan.Plan.{Plan}
+use Rattle.gob_plan.specs.declared.units.BranchCounts.{BranchCounts}
+use Rattle.gob_plan.specs.declared.units.Counts.{Counts}
+use Rattle.gob_plan.specs.declared.units.Unit.{Unit as WorkUnit}
+use Rattle.gob_plan.specs.declared.units.Cause.{Cause}
+use Rattle.gob_plan.specs.declared.units.Cause.TheVariants.{Policy, Gone, Torn}
+use Rattle.gob_meaning.specs.Fold.{unit_fold, counts_of, stop_of}
+
+-- a result without the files that it staged
+pub data Verdict : Type 0 where
+  good : (counts : Counts) (warnings : List ℕ) → Verdict
+  failed : Cause → Verdict
+
+abbrev pub in_branch : (BranchCounts → ℕ) → ℕ → Counts → ℕ
+in_branch f b counts = unwrap_or (option_map f (slice_get counts.branches b)) 0
+
+abbrev pub counted : Counter → Counts → ℕ
+counted counter.Records c = c.records
+counted counter.Bad c = c.bad
+counted counter.Rows c = c.rows
+counted counter.Unrouted c = c.unrouted
+counted (counter.Written b) c = in_branch (λ x. x.written) b c
+counted (counter.Errors b) c = in_branch (λ x. x.errors) b c
+counted (counter.Optional b) c = in_branch (λ x. x.optional) b c
+
+abbrev pub rule_holds : TaskRule → Counts → Bool
+rule_holds (Range c low high) n = nat_le low (counted c n) && nat_le (counted c n) high
+rule_holds (Share c of permille) n = nat_le (counted c n * 1000) (counted of n * permille)
+
+abbrev pub fails_task : TaskPolicy → Counts → Bool
+fails_task p n = p.fails && not (rule_holds p.rule n)
+
+abbrev pub warns_of : TaskPolicy → Counts → Bool
+warns_of p n = not p.fails && not (rule_holds p.rule n)
+
+abbrev pub first_failing : List (ℕ × TaskPolicy) → Counts → Option ℕ
+first_failing [] n = None
+first_failing (p ∷ ps) n = cond (fails_task p.1 n) (Some p.0) (first_failing ps n)
+
+unfoldable pub warnings_of : List TaskPolicy → Counts → List ℕ
+warnings_of policies n = map (λ p. p.0) (filter (λ p. warns_of p.1 n) (enumerate_from 0 policies))
+
+abbrev pub judged : Plan → Counts → Option ℕ → Verdict
+judged plan n (Some index) = failed (Policy index)
+judged plan n None = good n (warnings_of plan.task_policies n)
+
+abbrev pub unless_stopped : Plan → ℕ → List ℕ → Option Cause → Verdict
+unless_stopped plan lo bytes (Some cause) = failed cause
+unless_stopped plan lo bytes None = cond (ends_in_lf bytes)
+    (let n = counts_of plan (unit_fold plan lo bytes) in judged plan n (first_failing (enumerate_from 0 plan.task_policies) n))
+    (failed Torn)
+
+-- the result of a unit whose bytes these are
+unfoldable pub verdict_of : Plan → WorkUnit → List ℕ → Verdict
+verdict_of plan unit bytes = cond unit.listed (unless_stopped plan unit.lo bytes (stop_of plan (unit_fold plan unit.lo bytes))) (failed Gone)
