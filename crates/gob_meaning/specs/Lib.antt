@@ -9,3 +9,4 @@ pub mod Results
 pub mod Names
 pub mod Plans
 pub mod Job
+pub mod Laws

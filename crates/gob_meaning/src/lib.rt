@@ -1,2 +1,13 @@
 //! What a job makes of the lines it pulls: formats, steps, policies, forks, counts, results and names. No function works here.
+//! Each function states a law about these definitions; it takes nothing and does nothing.
 #![tactic(auto)]
+
+ghost use Rattle.std.specs.Prelude.{ℕ, List};
+ghost use Rattle.gob_plan.specs.declared.units.Unit.{Unit as WorkUnit};
+ghost use Rattle.gob_meaning.specs.Laws.{IsPlainText, MakesItself, IsGoodAlone};
+
+/// Under the plain plan whole lines of UTF-8 are published as they are.
+pub fn lines_made_are_the_bytes()
+    ensures made { (lo : ℕ) (bytes : List ℕ) → IsPlainText bytes → MakesItself lo bytes }
+    ensures good { (unit : WorkUnit) (bytes : List ℕ) → IsPlainText bytes → IsGoodAlone unit bytes }
+{}

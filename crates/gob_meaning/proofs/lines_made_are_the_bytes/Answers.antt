@@ -1,0 +1,8 @@
+use Rattle.gob_meaning.proofs.PlainLines.{plain_lines, plain_unit}
+use Rattle.gob_meaning.proofs.lines_made_are_the_bytes.Goals as goal
+
+pub returns-clause-made : goal.returns-clause-made
+returns-clause-made c = plain_lines
+
+pub returns-clause-good : goal.returns-clause-good
+returns-clause-good c = plain_unit
