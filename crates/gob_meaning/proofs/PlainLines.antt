@@ -95,7 +95,7 @@ plain_from start begun (b ∷ bs) single bare text =
     (λ other. plain_from start (begun ++ b ∷ []) bs (list_any-push (λ c. nat_eq c 10) begun b single other) (rw (append_assoc begun (b ∷ []) bs) bare) (rw (append_assoc begun (b ∷ []) bs) text))
 
 -- nothing stands after the last line feed of a text that ends in one
-rest_whole : (begun bs : List ℕ) → ends_in_lf bs ≡ true → rest_from begun bs ≡ []
+pub rest_whole : (begun bs : List ℕ) → ends_in_lf bs ≡ true → rest_from begun bs ≡ []
 unfolding rest_from
 rest_whole begun [] ends = absurd (true≢false (sym ends))
 rest_whole begun (b ∷ []) ends = cond-true (nat_eq b 10) [] (begun ++ b ∷ []) ends

@@ -1,14 +1,37 @@
 -- Laws of what units make.
-use Rattle.std.specs.Prelude.{◌≡◌, ◌≢◌, ℕ, Bool, true, false, ◌&&◌, ◌||◌, nat_eq, ◌⊎◌, List, [], ◌∷◌, length}
-use Rattle.std.specs.declared.option.Option.TheVariants.{None}
+use Rattle.std.specs.Prelude.{◌≡◌, ◌≢◌, ◌⊎◌, ℕ, ◌+◌, ◌-◌, Bool, true, false, ◌&&◌, ◌||◌, nat_eq, List, [], ◌∷◌, ◌++◌, length, map, count_by}
+use Rattle.std.specs.declared.option.Option.TheVariants.{None, Some}
 use Rattle.std.specs.Str.{is_utf8}
-use Rattle.gob_bytes.specs.Lines.{lines, ends_in_lf}
+use Rattle.gob_bytes.specs.Lines.{lines, lines_from, start_from, rest, ends_in_lf}
+use Rattle.gob_plan.specs.declared.plan.Plan.{Plan}
 use Rattle.gob_plan.specs.declared.units.Counts.{Counts}
 use Rattle.gob_plan.specs.declared.units.Unit.{Unit as WorkUnit}
 use Rattle.gob_meaning.specs.Items.{Target, out}
-use Rattle.gob_meaning.specs.Fold.{unit_fold, pieces_of, sent_to, counts_of, capped, stop_of, before_stop}
+use Rattle.gob_meaning.specs.Fold.{Folded, folded_line, unit_fold, pieces_of, sent_to, is_bad, counts_of, capped, stops_or, stop_from, before_stop_from, stop_of, before_stop}
+use Rattle.gob_meaning.specs.Sums.{sum_of}
 use Rattle.gob_meaning.specs.Results.{good, verdict_of}
 use Rattle.gob_meaning.specs.Job.{plain_plan}
+
+-- ---- a text in two pieces
+
+-- the fold of a text in two pieces is that of the first, and then the lines that go on from its rest
+pub record FoldJoins (plan : Plan) (lo : ℕ) (x y : List ℕ) : Type 0 where
+  pub lines : unit_fold plan lo (x ++ y) ≡ unit_fold plan lo x ++ map (folded_line plan lo) (lines_from (start_from 0 [] x) (rest x) y)
+  pub whole : ends_in_lf x ≡ true → unit_fold plan lo (x ++ y) ≡ unit_fold plan lo x ++ unit_fold plan (lo + length x) y
+
+-- how many lines of a fold are bad
+abbrev pub bad_lines : List Folded → ℕ
+bad_lines fold = count_by (λ f. is_bad f.made) fold
+
+-- what is said of two parts of a fold, one after the other: what is sent adds up and so do the counts; what stops the first
+-- stops both, and else the second stops where it would after as many bad lines
+pub record PartsJoin (plan : Plan) (x y : List Folded) : Type 0 where
+  pub pieces : pieces_of (x ++ y) ≡ pieces_of x ++ pieces_of y
+  pub sent : (t : Target) → sent_to t (pieces_of (x ++ y)) ≡ sent_to t (pieces_of x) ++ sent_to t (pieces_of y)
+  pub counts : counts_of plan (x ++ y) ≡ sum_of (counts_of plan x) (counts_of plan y)
+  pub stop : stop_of plan (x ++ y) ≡ stops_or (stop_of plan x) (λ c. Some c) (stop_from (plan.skip_errors - bad_lines x) y)
+  pub before : before_stop plan (x ++ y) ≡ stops_or (stop_of plan x) (λ c. before_stop plan x) (x ++ before_stop_from (plan.skip_errors - bad_lines x) y)
+  pub all : stop_of plan x ≡ None → before_stop plan x ≡ x
 
 -- ---- whole lines, as they are
 

@@ -5,6 +5,7 @@ pub mod Policies
 pub mod Fork
 pub mod Items
 pub mod Fold
+pub mod Sums
 pub mod Results
 pub mod Names
 pub mod Plans

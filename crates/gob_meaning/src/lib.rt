@@ -4,10 +4,18 @@
 
 ghost use Rattle.std.specs.Prelude.{ℕ, List};
 ghost use Rattle.gob_plan.specs.declared.units.Unit.{Unit as WorkUnit};
-ghost use Rattle.gob_meaning.specs.Laws.{IsPlainText, MakesItself, IsGoodAlone};
+ghost use Rattle.gob_meaning.specs.Laws.{FoldJoins, PartsJoin, IsPlainText, MakesItself, IsGoodAlone};
+ghost use Rattle.gob_meaning.specs.Fold.{Folded};
+ghost use Rattle.gob_plan.specs.declared.plan.Plan.{Plan};
 
 /// Under the plain plan whole lines of UTF-8 are published as they are.
 pub fn lines_made_are_the_bytes()
     ensures made { (lo : ℕ) (bytes : List ℕ) → IsPlainText bytes → MakesItself lo bytes }
     ensures good { (unit : WorkUnit) (bytes : List ℕ) → IsPlainText bytes → IsGoodAlone unit bytes }
+{}
+
+/// What a text in two pieces makes: its lines, what is sent, the counts, and where it stops.
+pub fn folds_join()
+    ensures lines { (plan : Plan) (lo : ℕ) (x y : List ℕ) → FoldJoins plan lo x y }
+    ensures parts { (plan : Plan) (x y : List Folded) → PartsJoin plan x y }
 {}
