@@ -1,0 +1,51 @@
+-- A steady map stands for its state in every image of what settles to it.
+use Rattle.std.proofs.Common.{◌≡◌, ◌↔◌, ℕ, true, List, refl, sym, ap, subst, ◌∙◌, Some, None, option_map}
+use Rattle.std.specs.declared.option.Option.{Option}
+use Rattle.gob_bytes.specs.Paths.{is_published, state_name}
+use Rattle.gob_device.specs.Disk.{Files, File, clean, dirty, contents_of, contents_at, FileImage}
+use Rattle.gob_device.specs.Supply.{Held}
+use Rattle.gob_ledger.specs.State.{State}
+use Rattle.gob_ledger.specs.Expected.{IsExpected}
+use Rattle.gob_recovery.specs.Settle.{SettlesAs}
+use Rattle.gob_recovery.proofs.Images.{image_at}
+use Rattle.gob_history.specs.Sound.{Stores, SoundIn, AllStandFor, SteadyStands}
+
+abbrev pub Quiet : Option File → Type 0
+Quiet x = (f : File) → x ≡ Some f → (bytes : List ℕ) × (f ≡ clean bytes)
+
+clean_reads : (f : File) (y : Option File) → ((bytes : List ℕ) × (f ≡ clean bytes)) → FileImage (Some f) y → option_map contents_of y ≡ Some (contents_of f)
+clean_reads f None q e = absurd (subst (λ g. FileImage (Some g) None) q.1 e)
+clean_reads f (Some (clean left)) q e = ap (λ b. Some b) (subst (λ g. FileImage (Some g) (Some (clean left))) q.1 e) ∙ sym (ap (λ g. Some (contents_of g)) q.1)
+clean_reads f (Some (dirty k l)) q e = absurd (subst (λ g. FileImage (Some g) (Some (dirty k l))) q.1 e)
+
+-- an image of a clean file reads as it does
+pub reads_alike : (x y : Option File) → Quiet x → FileImage x y → option_map contents_of y ≡ option_map contents_of x
+reads_alike None None q e = refl
+reads_alike None (Some g) q e = absurd e
+reads_alike (Some f) y q e = clean_reads f y (q f refl) e
+
+pub stores_alike : (job : List ℕ) (o : Option State) (m n : Files) → contents_at n (state_name job) ≡ contents_at m (state_name job) → Stores job m o → Stores job n o
+stores_alike job None m n same s = same ∙ s
+stores_alike job (Some t) m n same s = (same ∙ s.0, s.1)
+
+pub sound_alike : (job : List ℕ) (archive : Held) (o : Option State) (m n : Files) → ((name : List ℕ) → is_published job name ≡ true → contents_at n name ≡ contents_at m name) → SoundIn job archive o m → SoundIn job archive o n
+sound_alike job archive None m n same s = λ name p. same name p ∙ s name p
+sound_alike job archive (Some t) m n same s = record {
+  tiled = s.tiled;
+  plans = s.plans;
+  within = s.within;
+  totals = s.totals;
+  files = λ name content p. subst (λ (c : Option (List ℕ)). (c ≡ Some content) ↔ IsExpected job t archive name content) (sym (same name p)) (s.files name content p);
+}
+
+pub standing : SteadyStands
+unfolding AllStandFor SettlesAs
+standing job archive o settled m steady alike = λ i image.
+    let x = alike i image in
+    let same : (name : List ℕ) → is_published job name ≡ true → contents_at x.0 name ≡ contents_at settled name =
+    λ name p. reads_alike (settled name) (x.0 name) (λ f e. steady.published name f p e) (image_at settled x.0 x.2 name) in (
+      x.0,
+      x.1,
+      stores_alike job o settled x.0 (reads_alike (settled (state_name job)) (x.0 (state_name job)) steady.state (image_at settled x.0 x.2 (state_name job))) steady.stores,
+      sound_alike job archive o settled x.0 same steady.sound,
+    )

@@ -1,0 +1,9 @@
+//! What maps of files stand for over lists of runs, wherever each run is stopped: definitions and their laws. No function works here.
+#![tactic(auto)]
+
+ghost use Rattle.gob_history.specs.Sound.{SteadyStands};
+
+/// Whatever settles to a steady map stands for that map's state, whatever a crash leaves of it.
+pub fn steady_stands()
+    ensures { SteadyStands }
+{}

@@ -1,0 +1,10 @@
+pub mod Marks
+pub mod State
+pub mod Units
+pub mod Next
+pub mod Expected
+pub mod Archive
+pub mod Totals
+pub mod Spelling
+pub mod Turns
+pub mod Examples

@@ -1,0 +1,53 @@
+-- What the done ranges of a state made in all.
+use Rattle.std.specs.Prelude.{◌≡◌, ℕ, List, [], ◌∷◌, map, unwrap_or}
+use Rattle.std.specs.declared.option.Option.{Option}
+use Rattle.std.specs.declared.option.Option.TheVariants.{None, Some}
+use Rattle.std.specs.Option.{option_and_then}
+use Rattle.std.specs.List.{flat_map, slice_get}
+use Rattle.gob_device.specs.Supply.{Held}
+use Rattle.gob_plan.specs.declared.plan.Plan.{Plan}
+use Rattle.gob_plan.specs.declared.units.BranchCounts.{BranchCounts}
+use Rattle.gob_plan.specs.declared.units.Counts.{Counts}
+use Rattle.gob_meaning.specs.Fold.{unit_fold, counts_of}
+use Rattle.gob_meaning.specs.Job.{plan_of}
+use Rattle.gob_ledger.specs.Marks.{Marks, Span, Done}
+use Rattle.gob_ledger.specs.State.{State, no_branch, no_counts, sum_of}
+use Rattle.gob_ledger.specs.Expected.{bytes_in}
+
+-- what a range of a partition makes
+abbrev pub span_counts : Plan → Held → List ℕ → Span → Counts
+span_counts plan archive part s = counts_of plan (unit_fold plan s.lo (bytes_in archive part s))
+
+-- the plan of the state's pipeline with this index
+abbrev pub plan_at : List (List ℕ) → ℕ → Option Plan
+plan_at pipelines index = option_and_then plan_of (slice_get pipelines index)
+
+abbrev pub counts_where : Option Plan → Held → List ℕ → Span → Counts
+counts_where None archive part s = no_counts 0
+counts_where (Some plan) archive part s = span_counts plan archive part s
+
+-- what a done range made, by the pipeline that it names
+abbrev pub done_counts : List (List ℕ) → Held → List ℕ → Done → Counts
+done_counts pipelines archive part d = counts_where (plan_at pipelines d.pipeline) archive part d.span
+
+abbrev pub part_counts : List (List ℕ) → Held → List ℕ × Marks → List Counts
+part_counts pipelines archive e = map (done_counts pipelines archive e.0) e.1.finished
+
+abbrev pub sum_counts : List Counts → Counts
+sum_counts [] = no_counts 0
+sum_counts (c ∷ cs) = sum_of c (sum_counts cs)
+
+-- what all done ranges of the state made
+unfoldable pub counted_in : State → Held → Counts
+counted_in s archive = sum_counts (flat_map (part_counts s.pipelines archive) s.parts)
+
+abbrev pub branch_at : Counts → ℕ → BranchCounts
+branch_at c i = unwrap_or (slice_get c.branches i) no_branch
+
+-- the same counts, where a branch that one side lacks counts as zero
+pub record SameCounts (a b : Counts) : Type 0 where
+  pub records : a.records ≡ b.records
+  pub bad : a.bad ≡ b.bad
+  pub rows : a.rows ≡ b.rows
+  pub unrouted : a.unrouted ≡ b.unrouted
+  pub branches : (i : ℕ) → branch_at a i ≡ branch_at b i
