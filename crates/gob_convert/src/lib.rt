@@ -1,2 +1,7 @@
-//! The law of converters: what is made of a record, one record at a time, and how converters are put together.
+//! The law of converters: one takes a record of a shape and makes a list of records of another shape of it, or
+//! finds it bad. Converters are put together here; those of a format or a step stand in crates above.
 #![tactic(auto)]
+
+mod convert;
+
+pub use convert::{Convert, ConvertFault};
