@@ -2,6 +2,10 @@
 //! finds it bad. Converters are put together here; those of a format or a step stand in crates above.
 #![tactic(auto)]
 
+mod chain;
 mod convert;
+mod placer;
 
+pub use chain::Chain;
 pub use convert::{Convert, ConvertFault};
+pub use placer::Placer;
