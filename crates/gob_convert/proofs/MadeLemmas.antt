@@ -1,8 +1,8 @@
 -- Laws of what is made: lists are joined in order, and Bad stays Bad.
-use Rattle.std.proofs.Common.{◌≡◌, Bool, true, List, [], ◌∷◌, ◌++◌, None, Some, refl, ap, sym, ◌∙◌, append_assoc}
+use Rattle.std.proofs.Common.{◌≡◌, Bool, true, List, [], ◌∷◌, ◌++◌, None, Some, refl, ap, sym, ◌∙◌, append_assoc, append-nil}
 use Rattle.std.specs.Cmp.Derive.{both_true}
 use Rattle.std.specs.List.{list_all}
-use Rattle.gob_convert.specs.Made.{Made, joined, made_each, then_each, all_made}
+use Rattle.gob_convert.specs.Made.{Made, joined, made_each, then_each, all_made, shape_through}
 use Rattle.gob_convert.specs.Fitting.{left_true, right_true}
 
 pub joined-assoc : {A : Type 0} (a b c : Made A) → joined (joined a b) c ≡ joined a (joined b c)
@@ -45,3 +45,16 @@ list_all-of_made {A} before after weaker m xs made fit = weaker_each xs (rw made
     weaker_each : (ys : List A) → list_all before ys ≡ true → list_all after ys ≡ true
     weaker_each [] all = refl
     weaker_each (y ∷ ys) all = both_true (weaker y (left_true (before y) (list_all before ys) all)) (weaker_each ys (right_true (before y) (list_all before ys) all))
+
+-- a list of one record
+pub made_each-one : {A B : Type 0} (f : A → Made B) (x : A) → made_each f (x ∷ []) ≡ f x
+made_each-one f x = joined-end (f x)
+  where
+    joined-end : {B : Type 0} (a : Made B) → joined a (Some []) ≡ a
+    joined-end None = refl
+    joined-end (Some xs) = ap Some (append-nil xs)
+
+-- the last converter of a list tells the shape behind it
+pub shape_through-last : {C S : Type 0} (out_shape : C → S) (shape : S) (cs : List C) (c : C) → shape_through out_shape shape (cs ++ c ∷ []) ≡ out_shape c
+shape_through-last out_shape shape [] c = refl
+shape_through-last out_shape shape (d ∷ ds) c = shape_through-last out_shape (out_shape d) ds c

@@ -1,5 +1,5 @@
 -- Laws of what is made, for the laws of converters that are made of others: where each part keeps a test, so does the whole.
-use Rattle.std.proofs.Common.{◌≡◌, Bool, true, false, ◌&&◌, List, [], ◌∷◌, None, Some, refl, sym, subst, arith}
+use Rattle.std.proofs.Common.{◌≡◌, Bool, true, false, ◌&&◌, List, [], ◌∷◌, None, Some, refl, sym, ◌∙◌, subst, arith}
 use Rattle.std.proofs.lemmas.Grind.{common_steps}
 use Rattle.std.specs.Cmp.Derive.{both_true}
 use Rattle.std.specs.List.{list_all}
@@ -28,10 +28,10 @@ all_made-then_each before after f keeps None fit = refl
 all_made-then_each before after f keeps (Some xs) fit = all_made-each before after f keeps xs fit
 
 -- each record made by a list of converters that follow one another fits the last shape
-pub all_made-through : {C S A : Type 0} (fits : S → A → Bool) (shape_of out_shape : C → S) (made : C → A → Made A) → ((c : C) (x : A) → fits (shape_of c) x ≡ true → all_made (fits (out_shape c)) (made c x) ≡ true) → (shape : S) (cs : List C) → Follow shape_of out_shape shape cs → (x : A) → fits shape x ≡ true → all_made (fits (shape_through out_shape shape cs)) (made_through made cs x) ≡ true
-all_made-through fits shape_of out_shape made keeps shape [] follow x fit = both_true fit refl
-all_made-through {S = S} fits shape_of out_shape made keeps shape (c ∷ cs) follow x fit =
-    all_made-then_each (fits (out_shape c)) (fits (shape_through out_shape (out_shape c) cs)) (made_through made cs)
-    (all_made-through fits shape_of out_shape made keeps (out_shape c) cs follow.1)
+pub all_made-through : {C S A : Type 0} (fits out_fits : S → A → Bool) → ((s : S) (x : A) → fits s x ≡ out_fits s x) → (shape_of out_shape : C → S) (made : C → A → Made A) → ((c : C) (x : A) → fits (shape_of c) x ≡ true → all_made (out_fits (out_shape c)) (made c x) ≡ true) → (shape : S) (cs : List C) → Follow shape_of out_shape shape cs → (x : A) → fits shape x ≡ true → all_made (fits (shape_through out_shape shape cs)) (made_through made cs x) ≡ true
+all_made-through fits out_fits same shape_of out_shape made keeps shape [] follow x fit = both_true fit refl
+all_made-through {S = S} fits out_fits same shape_of out_shape made keeps shape (c ∷ cs) follow x fit =
+    all_made-then_each (out_fits (out_shape c)) (fits (shape_through out_shape (out_shape c) cs)) (made_through made cs)
+    (λ y fit_between. all_made-through fits out_fits same shape_of out_shape made keeps (out_shape c) cs follow.1 y (same (out_shape c) y ∙ fit_between))
     (made c x)
     (keeps c x (let P : S → Type 0 = λ s. fits s x ≡ true in subst P (sym follow.0) fit))

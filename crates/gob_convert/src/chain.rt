@@ -3,9 +3,8 @@ ghost use Rattle.std.specs.Prelude.{◌≡◌, true};
 ghost use Rattle.gob_convert.specs.Made.{then_each};
 ghost use Rattle.gob_convert.specs.Fitting.{all_made-then_each};
 
-use std::alloc::Global;
-
 use crate::convert::{Convert, ConvertFault, convert_each};
+use std::alloc::Global;
 
 /// Two converters of any kinds: the second one converts each record that the first one makes.
 #[derive(Drop)]

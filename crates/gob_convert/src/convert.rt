@@ -3,7 +3,7 @@ ghost use Rattle.std.specs.Prelude.{◌≡◌, Bool, true, None, Some, ◌++◌,
 ghost use Rattle.std.specs.List.{list_all};
 ghost use Rattle.gob_convert.specs.Made.{Made, made_each, all_made};
 
-use std::alloc::{AllocError, Global};
+use std::alloc::{AllocError, AllocFailed, Global};
 use thiserror::Error;
 
 /// Why a record wasn't converted.
@@ -25,11 +25,21 @@ impl From<AllocError> for ConvertFault {
     }
 }
 
+impl<T: Drop> From<AllocFailed<T>> for ConvertFault {
+    ghost use Rattle.gob_convert.specs.declared.convert.ConvertFault.{ConvertFault};
+
+    ghost from_gives = { λ _ e. e ≡ ConvertFault.Memory };
+
+    fn from(_e: AllocFailed<T>) -> ConvertFault {
+        ConvertFault::Memory
+    }
+}
+
 /// A converter of records. It was made for one shape of records; `output` tells the shape of those that it makes.
 pub trait Convert {
-    type Shape;
+    type Shape: Drop;
 
-    type OutShape;
+    type OutShape: Drop;
 
     type Rec: Drop;
 

@@ -4,8 +4,10 @@
 
 mod chain;
 mod convert;
+mod many;
 mod placer;
 
 pub use chain::Chain;
 pub use convert::{Convert, ConvertFault};
+pub use many::Many;
 pub use placer::Placer;
