@@ -11,3 +11,6 @@ pub use chain::Chain;
 pub use convert::{Convert, ConvertFault};
 pub use many::Many;
 pub use placer::Placer;
+
+#[cfg(test)]
+mod tests;
