@@ -2,7 +2,7 @@
 use Rattle.std.proofs.Common.{◌≡◌, ◌<◌, ℕ, zero, suc, true, refl, arith, [], ◌∷◌, codes, lit<}
 use Rattle.std.specs.Fmt.{digits}
 use Rattle.std.specs.Str.{is_utf8, chars}
-use Rattle.gob_bytes.specs.Digits.{offset}
+use Rattle.gob_bytes.specs.Digits.{offset, padded}
 use Rattle.gob_bytes.specs.Escapes.{escaped}
 use Rattle.gob_bytes.specs.Lines.{lines_from}
 use Rattle.gob_device.specs.Supply.{given}
@@ -29,7 +29,7 @@ covered (suc zero) below = refl
 covered (suc (suc at)) below = absurd (omega (arith, below))
 
 pub worked : WorkedExamples
-unfolding digits is_utf8 chars lib.Utf8.encode offset escaped lines_from given test_holds unit_fold sent_to counts_of stop_of picks place_of decoded encoded branch_items line_made plan_of target_name ruling warnings_of verdict_of sum_of units_of_parts next_state state_text own_pulls turns_of verdicts_of
+unfolding digits is_utf8 chars lib.Utf8.encode offset padded escaped lines_from given test_holds unit_fold sent_to counts_of stop_of picks place_of decoded encoded branch_items line_made plan_of target_name ruling warnings_of verdict_of sum_of units_of_parts next_state state_text own_pulls turns_of verdicts_of
 worked = record {
   long_line_is_a_unit = refl;
   units_come_in_rounds = refl;
