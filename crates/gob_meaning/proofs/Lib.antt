@@ -1,2 +1,4 @@
 pub mod PlainLines
 pub mod Joins
+pub mod Examples
+pub mod Quick

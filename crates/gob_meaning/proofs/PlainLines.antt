@@ -10,6 +10,8 @@ use Rattle.std.proofs.Math.Seq.{take-append_seam, drop-append-add, get_or-append
 use Rattle.gob_bytes.specs.Lines.{Line, raw_of, without_cr, lines, lines_from, rest, rest_from, ends_in_lf}
 use Rattle.gob_bytes.proofs.Cuts.{lines_fill}
 use Rattle.gob_plan.specs.declared.units.Unit.{Unit as WorkUnit}
+use Rattle.gob_plan.specs.Columns.{is_columns}
+use Rattle.gob_meaning.specs.Plans.{IsFitting}
 use Rattle.gob_meaning.specs.Formats.{decoded, encoded}
 use Rattle.gob_meaning.specs.Policies.{ruling}
 use Rattle.gob_meaning.specs.Fork.{picks, place_of}
@@ -218,3 +220,21 @@ unfolding verdict_of warnings_of
 plain_unit unit bytes plain listed ends =
     let made_of = plain_lines unit.lo bytes plain in
     rw (listed, made_of.goes_on, ends, made_of.counts) refl
+
+-- its one branch takes whole lines and has no more to fit
+pub plain_fits : IsFitting plain_plan
+unfolding is_columns
+plain_fits = record {
+  columns = refl;
+  reads = refl;
+  steps = refl;
+  tests = refl;
+  as_many_tests = refl;
+  as_many_branches = refl;
+  branches = refl;
+  counters = refl;
+  few_steps = refl;
+  some_branches = refl;
+  short_branches = refl;
+  few_policies = refl;
+}

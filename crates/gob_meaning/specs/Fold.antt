@@ -18,9 +18,11 @@ pub record Folded : Type 0 where
   pub at : ℕ
   pub made : LineMade
 
+-- what a line makes at its offset
 abbrev pub folded_line : Plan → ℕ → Line → Folded
 folded_line plan lo l = record { at = lo + l.start; made = line_made plan (lo + l.start) l }
 
+-- what each line of these bytes makes, where they begin at this offset
 unfoldable pub unit_fold : Plan → ℕ → List ℕ → List Folded
 unit_fold plan lo bytes = map (folded_line plan lo) (lines bytes)
 
@@ -29,6 +31,7 @@ pub record Piece : Type 0 where
   pub target : Target
   pub bytes : List ℕ
 
+-- an item sends its record, unless its row is killed
 abbrev pub piece_of : Item → List Piece
 piece_of i = sent i.end
   where
@@ -37,14 +40,17 @@ piece_of i = sent i.end
     sent (error bytes) = record { target = err i.branch i.place; bytes = bytes } ∷ []
     sent (killed policy) = []
 
+-- what a line sends
 abbrev pub line_pieces : LineMade → List Piece
 line_pieces nothing = []
 line_pieces (refused raw) = record { target = bad; bytes = raw } ∷ []
 line_pieces (made m) = flat_map piece_of m.items
 
+-- what all lines send, in order
 abbrev pub pieces_of : List Folded → List Piece
 pieces_of fold = flat_map (λ f. line_pieces f.made) fold
 
+-- two targets are one
 abbrev pub same_target : Target → Target → Bool
 same_target (out b p) (out c q) = nat_eq b c && bytes_eq p q
 same_target (err b p) (err c q) = nat_eq b c && bytes_eq p q
@@ -64,44 +70,53 @@ sent_to t pieces = flat_map (λ p. cond (same_target t p.target) p.bytes []) pie
 abbrev pub capped : ℕ → ℕ
 capped n = min n (2 ^ 64 - 1)
 
+-- the items of a line
 abbrev pub items_in : LineMade → List Item
 items_in nothing = []
 items_in (refused raw) = []
 items_in (made m) = m.items
 
+-- the line counts as a record: all but a header do
 abbrev pub is_record : LineMade → Bool
 is_record nothing = false
 is_record (refused raw) = true
 is_record (made m) = true
 
+-- the line is a bad record
 abbrev pub is_bad : LineMade → Bool
 is_bad nothing = false
 is_bad (refused raw) = true
 is_bad (made m) = false
 
+-- the rows of a line before the fork
 abbrev pub rows_in : LineMade → ℕ
 rows_in nothing = 0
 rows_in (refused raw) = 0
 rows_in (made m) = m.rows
 
+-- those of them that no branch takes
 abbrev pub unrouted_in : LineMade → ℕ
 unrouted_in nothing = 0
 unrouted_in (refused raw) = 0
 unrouted_in (made m) = m.unrouted
 
+-- the row is published
 abbrev pub is_written : End → Bool
 is_written (written bytes) = true
 is_written (error bytes) = false
 is_written (killed policy) = false
 
+-- the row goes to the error file
 abbrev pub is_error : End → Bool
 is_error (written bytes) = false
 is_error (error bytes) = true
 is_error (killed policy) = false
 
+-- the items of a branch
 abbrev pub in_branch : ℕ → List Folded → List Item
 in_branch b fold = filter (λ i. nat_eq i.branch b) (flat_map (λ f. items_in f.made) fold)
 
+-- what is counted of a branch
 abbrev pub branch_counts : List Folded → ℕ → BranchCounts
 branch_counts fold b = record {
   written = capped (count_by (λ i. is_written i.end) (in_branch b fold));
@@ -109,6 +124,7 @@ branch_counts fold b = record {
   optional = capped (sum_by (λ i. i.optional) (in_branch b fold));
 }
 
+-- what is counted of a unit
 unfoldable pub counts_of : Plan → List Folded → Counts
 counts_of plan fold = record {
   records = capped (count_by (λ f. is_record f.made) fold);
@@ -118,12 +134,13 @@ counts_of plan fold = record {
   branches = map (branch_counts fold) (range_with_len 0 (length plan.branches));
 }
 
--- the first kill of a line
+-- a kill here, or else a later one
 abbrev pub kill_or : ℕ → End → Option (ℕ × ℕ) → Option (ℕ × ℕ)
 kill_or branch (written bytes) later = later
 kill_or branch (error bytes) later = later
 kill_or branch (killed policy) later = Some (branch, policy)
 
+-- the branch and the policy of the first kill
 abbrev pub first_kill : List Item → Option (ℕ × ℕ)
 first_kill [] = None
 first_kill (i ∷ items) = kill_or i.branch i.end (first_kill items)
@@ -134,6 +151,7 @@ line_stop left at nothing = None
 line_stop left at (refused raw) = cond (nat_eq left 0) (Some (BadRecords at)) None
 line_stop left at (made m) = option_map (λ k. Kill k.0 k.1 at) (first_kill m.items)
 
+-- what comes of a cause that is there, or else the later thing
 abbrev pub stops_or : {A : Type 0} → Option Cause → (Cause → A) → A → A
 stops_or None here later = later
 stops_or (Some c) here later = here c
@@ -148,8 +166,10 @@ abbrev pub before_stop_from : ℕ → List Folded → List Folded
 before_stop_from left [] = []
 before_stop_from left (f ∷ fs) = stops_or (line_stop left f.at f.made) (λ c. []) (f ∷ before_stop_from (left - cond (is_bad f.made) 1 0) fs)
 
+-- why these lines stop the unit, if they do
 unfoldable pub stop_of : Plan → List Folded → Option Cause
 stop_of plan fold = stop_from plan.skip_errors fold
 
+-- the lines before the one that stops it; all, where none does
 unfoldable pub before_stop : Plan → List Folded → List Folded
 before_stop plan fold = before_stop_from plan.skip_errors fold

@@ -13,6 +13,7 @@ use Rattle.gob_plan.specs.declared.plan.PlaceSpec.{PlaceSpec}
 use Rattle.gob_plan.specs.declared.plan.PlaceSpec.TheVariants as place
 use Rattle.gob_plan.specs.Tests.{test_holds}
 
+-- the test is there and holds
 abbrev pub holds_if_there : Option TestSpec → List Column → Row → Bool
 holds_if_there None columns row = false
 holds_if_there (Some test) columns row = test_holds test columns row
@@ -25,6 +26,7 @@ branch_test tests columns row b = holds_if_there (slice_get tests b) columns row
 abbrev pub earlier_test : List TestSpec → List Column → Row → ℕ → Bool
 earlier_test tests columns row b = list_any (λ test. test_holds test columns row) (take b tests)
 
+-- by the kind of fork
 abbrev pub picks_by : ForkHow → List TestSpec → List Column → Row → ℕ → Bool
 picks_by fork_how.All tests columns row b = true
 picks_by fork_how.Each tests columns row b = branch_test tests columns row b

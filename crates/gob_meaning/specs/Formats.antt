@@ -81,6 +81,7 @@ abbrev pub member_or_null : Kind → Option json.Data → Option Value
 member_or_null k None = Some value.Null
 member_or_null k (Some d) = member_value k d
 
+-- the values of the columns in an object
 abbrev pub member_values : List Column → json.Members → Option (List Value)
 member_values [] ms = Some []
 member_values (c ∷ cs) ms = value_before (member_or_null c.kind (get_member c.name ms)) (member_values cs ms)
@@ -90,6 +91,7 @@ abbrev pub json_decoded : List Column → List ℕ → Made Row
 json_decoded columns [] = Some []
 json_decoded columns (b ∷ bs) = cond (is_utf8 (b ∷ bs)) (row_of (option_and_then (member_values columns) (option_and_then as_object (read (b ∷ bs))))) None
 
+-- a value as JSON
 abbrev pub value_data : Value → json.Data
 value_data value.Null = json.null
 value_data (value.Bool b) = json.boolean b
@@ -102,6 +104,7 @@ members_of [] vs = json.no_members
 members_of (c ∷ cs) [] = json.no_members
 members_of (c ∷ cs) (v ∷ vs) = json.put c.name (value_data v) (members_of cs vs)
 
+-- the compact object, and a line feed
 abbrev pub json_encoded : List Column → List Value → List ℕ
 json_encoded columns values = compact_text (json.object (members_of columns values)) ++ 10 ∷ []
 

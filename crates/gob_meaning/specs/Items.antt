@@ -73,6 +73,7 @@ abbrev pub made_of_items : Plan → List Column → List ℕ → List Row → Ma
 made_of_items plan columns raw rows None = refused raw
 made_of_items plan columns raw rows (Some items) = made (record { items = items; rows = length rows; unrouted = length (filter (λ r. not (is_picked plan columns r)) rows) })
 
+-- the same where the line itself may be Bad
 abbrev pub made_of_rows : Plan → List Column → List ℕ → Made Row → LineMade
 made_of_rows plan columns raw None = refused raw
 made_of_rows plan columns raw (Some rows) = made_of_items plan columns raw rows (made_each (row_items plan columns) rows)

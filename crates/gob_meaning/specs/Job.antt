@@ -13,6 +13,7 @@ use Rattle.gob_plan.specs.declared.plan.TurnRules.{TurnRules}
 use Rattle.gob_plan.specs.declared.plan.Limits.{Limits}
 use Rattle.gob_plan.specs.declared.plan.Plan.{Plan}
 
+-- what is to be done, with which partitions, in which turns, and what of it is committed
 pub record Job : Type 0 where
   pub name : List ℕ
   pub plan : Plan

@@ -11,3 +11,4 @@ pub mod Names
 pub mod Plans
 pub mod Job
 pub mod Laws
+pub mod Worked

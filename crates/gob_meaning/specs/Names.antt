@@ -10,11 +10,13 @@ use Rattle.gob_plan.specs.declared.plan.Format.TheVariants as format
 use Rattle.gob_plan.specs.declared.plan.Plan.{Plan}
 use Rattle.gob_meaning.specs.Items.{Target, out, err, bad}
 
+-- how a file of a format ends
 abbrev pub extension : Format → List ℕ
 extension format.Lines = codes "txt"
 extension format.Csv = codes "csv"
 extension format.Json = codes "json"
 
+-- how a branch's files end
 abbrev pub branch_extension : Plan → ℕ → List ℕ
 branch_extension plan b = unwrap_or (option_map (λ s. extension s.format) (slice_get plan.branches b)) []
 

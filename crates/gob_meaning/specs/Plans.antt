@@ -75,6 +75,7 @@ counter_fits branches (counter.Written b) = nat_lt b branches
 counter_fits branches (counter.Errors b) = nat_lt b branches
 counter_fits branches (counter.Optional b) = nat_lt b branches
 
+-- the branches of a rule's counters are there
 abbrev pub rule_fits : ℕ → TaskRule → Bool
 rule_fits branches (Range c low high) = counter_fits branches c
 rule_fits branches (Share c of permille) = counter_fits branches c && counter_fits branches of

@@ -1,5 +1,5 @@
 -- What a branch's policies say of a row.
-use Rattle.std.specs.Prelude.{ℕ, ◌+◌, cond, List, [], ◌∷◌}
+use Rattle.std.specs.Prelude.{ℕ, ◌+◌, Bool, true, false, List, [], ◌∷◌}
 use Rattle.gob_plan.specs.declared.rows.Column.{Column}
 use Rattle.gob_plan.specs.declared.rows.Row.{Row}
 use Rattle.gob_plan.specs.declared.plan.Mode.{Mode}
@@ -13,15 +13,17 @@ pub data Ruling : Type 0 where
   to_error : (policy : ℕ) → Ruling
   kill : (policy : ℕ) → Ruling
 
--- a failing policy decides by its mode; an optional one is counted, and the later ones decide
-abbrev pub decided : Mode → ℕ → Ruling × ℕ → Ruling × ℕ
-decided mode.Fail i later = (kill i, 0)
-decided mode.ErrFile i later = (to_error i, 0)
-decided mode.Optional i later = (later.0, later.1 + 1)
+-- a policy that holds leaves it to the later ones; a failing one decides by its mode, but an optional one is counted and leaves it to them too
+abbrev pub decided : Bool → Mode → ℕ → Ruling × ℕ → Ruling × ℕ
+decided true m i later = later
+decided false mode.Fail i later = (kill i, 0)
+decided false mode.ErrFile i later = (to_error i, 0)
+decided false mode.Optional i later = (later.0, later.1 + 1)
 
+-- the policies from this index on
 abbrev pub ruling_from : ℕ → List PolicySpec → List Column → Row → Ruling × ℕ
 ruling_from i [] columns row = (pass, 0)
-ruling_from i (p ∷ ps) columns row = cond (test_holds p.test columns row) (ruling_from (i + 1) ps columns row) (decided p.mode i (ruling_from (i + 1) ps columns row))
+ruling_from i (p ∷ ps) columns row = decided (test_holds p.test columns row) p.mode i (ruling_from (i + 1) ps columns row)
 
 -- what the first failing policy that isn't optional says, and how many optional ones fail before it, or in all
 unfoldable pub ruling : List PolicySpec → List Column → Row → Ruling × ℕ

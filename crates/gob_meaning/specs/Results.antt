@@ -23,39 +23,48 @@ pub data Verdict : Type 0 where
   good : (counts : Counts) (warnings : List ℕ) → Verdict
   failed : Cause → Verdict
 
-abbrev pub in_branch : (BranchCounts → ℕ) → ℕ → Counts → ℕ
-in_branch f b counts = unwrap_or (option_map f (slice_get counts.branches b)) 0
+-- one of a branch's counts, 0 for a branch that isn't there
+abbrev pub branch_count : (BranchCounts → ℕ) → ℕ → Counts → ℕ
+branch_count f b counts = unwrap_or (option_map f (slice_get counts.branches b)) 0
 
+-- the count that a counter names
 abbrev pub counted : Counter → Counts → ℕ
 counted counter.Records c = c.records
 counted counter.Bad c = c.bad
 counted counter.Rows c = c.rows
 counted counter.Unrouted c = c.unrouted
-counted (counter.Written b) c = in_branch (λ x. x.written) b c
-counted (counter.Errors b) c = in_branch (λ x. x.errors) b c
-counted (counter.Optional b) c = in_branch (λ x. x.optional) b c
+counted (counter.Written b) c = branch_count (λ x. x.written) b c
+counted (counter.Errors b) c = branch_count (λ x. x.errors) b c
+counted (counter.Optional b) c = branch_count (λ x. x.optional) b c
 
+-- a count is within a range, or at most so many thousandths of another
 abbrev pub rule_holds : TaskRule → Counts → Bool
 rule_holds (Range c low high) n = nat_le low (counted c n) && nat_le (counted c n) high
 rule_holds (Share c of permille) n = nat_le (counted c n * 1000) (counted of n * permille)
 
+-- the policy fails the unit
 abbrev pub fails_task : TaskPolicy → Counts → Bool
 fails_task p n = p.fails && not (rule_holds p.rule n)
 
+-- the policy fails and only warns
 abbrev pub warns_of : TaskPolicy → Counts → Bool
 warns_of p n = not p.fails && not (rule_holds p.rule n)
 
+-- the index of the first policy that fails the unit
 abbrev pub first_failing : List (ℕ × TaskPolicy) → Counts → Option ℕ
 first_failing [] n = None
 first_failing (p ∷ ps) n = cond (fails_task p.1 n) (Some p.0) (first_failing ps n)
 
+-- the indices of the policies that warn
 unfoldable pub warnings_of : List TaskPolicy → Counts → List ℕ
 warnings_of policies n = map (λ p. p.0) (filter (λ p. warns_of p.1 n) (enumerate_from 0 policies))
 
+-- a failing policy fails the unit, and else it is good with its warnings
 abbrev pub judged : Plan → Counts → Option ℕ → Verdict
 judged plan n (Some index) = failed (Policy index)
 judged plan n None = good n (warnings_of plan.task_policies n)
 
+-- a unit that isn't stopped must end in a line feed, and then its counts are judged
 abbrev pub unless_stopped : Plan → ℕ → List ℕ → Option Cause → Verdict
 unless_stopped plan lo bytes (Some cause) = failed cause
 unless_stopped plan lo bytes None = cond (ends_in_lf bytes)

@@ -123,16 +123,22 @@ on_text f (value.Bool b) = Some (value.Bool b)
 on_text f (value.Int n) = Some (value.Int n)
 on_text f (value.Text t) = Some (value.Text (f t))
 
--- the pieces of a text that begins with a piece begun; of a separator that has begun so many bytes are still to be passed over
-abbrev pub cut_from : List ℕ → List ℕ → ℕ → List ℕ → List (List ℕ)
-cut_from separator piece skip [] = piece ∷ []
-cut_from separator piece (suc skip) (b ∷ bs) = cut_from separator piece skip bs
-cut_from separator piece zero (b ∷ bs) =
-    cond (starts_with nat_eq (b ∷ bs) separator) (piece ∷ cut_from separator [] (length separator - 1) bs) (cut_from separator (piece ++ b ∷ []) zero bs)
+-- a byte before the pieces of what follows it: it ends a piece where a separator begins with it, and else joins the first
+abbrev pub piece_byte : Bool → ℕ → List (List ℕ) → List (List ℕ)
+piece_byte true b pieces = [] ∷ pieces
+piece_byte false b [] = (b ∷ []) ∷ []
+piece_byte false b (p ∷ pieces) = (b ∷ p) ∷ pieces
+
+-- the pieces of a text of which so many bytes belong to a separator that began before
+abbrev pub cut_after : List ℕ → ℕ → List ℕ → List (List ℕ)
+cut_after separator skip [] = [] ∷ []
+cut_after separator (suc skip) (b ∷ bs) = cut_after separator skip bs
+cut_after separator zero (b ∷ bs) =
+    let ends = starts_with nat_eq (b ∷ bs) separator in piece_byte ends b (cut_after separator (cond ends (length separator - 1) 0) bs)
 
 -- a text cut at a separator, from the left and without overlaps
 abbrev pub cut : List ℕ → List ℕ → List (List ℕ)
-cut separator text = cut_from separator [] zero text
+cut separator text = cut_after separator 0 text
 
 -- a row for each piece of the text in this column; no row on Null
 abbrev pub exploded : List ℕ → List ℕ → List Column → Row → Value → Made Row
@@ -158,6 +164,7 @@ step_rows (step.Lower name) columns row = changed name (on_text str_to_ascii_low
 abbrev pub columns_behind : StepSpec → List Column → List Column
 columns_behind s columns = result_unwrap_or (columns_after s columns) columns
 
+-- the columns behind all steps
 abbrev pub columns_through : List StepSpec → List Column → List Column
 columns_through [] columns = columns
 columns_through (s ∷ ss) columns = columns_through ss (columns_behind s columns)
@@ -171,6 +178,7 @@ refused_from i (s ∷ ss) columns = told (columns_after s columns) (refused_from
     told (Ok after) later = later
     told (Err why) later = Some (i, why)
 
+-- the first of these steps that is refused
 abbrev pub first_refused : List StepSpec → List Column → Option (ℕ × Refusal)
 first_refused steps columns = refused_from 0 steps columns
 

@@ -4,6 +4,7 @@ use Rattle.gob_plan.specs.declared.units.BranchCounts.{BranchCounts}
 use Rattle.gob_plan.specs.declared.units.Counts.{Counts}
 use Rattle.gob_meaning.specs.Fold.{capped}
 
+-- what a branch made in both
 abbrev pub both_branches : BranchCounts → BranchCounts → BranchCounts
 both_branches a b = record { written = capped (a.written + b.written); errors = capped (a.errors + b.errors); optional = capped (a.optional + b.optional) }
 

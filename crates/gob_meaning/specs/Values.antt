@@ -11,6 +11,7 @@ use Rattle.gob_plan.specs.declared.rows.Kind.TheVariants as kind
 use Rattle.gob_plan.specs.declared.rows.Value.{Value}
 use Rattle.gob_plan.specs.declared.rows.Value.TheVariants as value
 
+-- a truth value as a word
 abbrev pub bool_text : Bool → List ℕ
 bool_text true = codes "true"
 bool_text false = codes "false"
@@ -36,6 +37,7 @@ value_text (value.Text t) = t
 abbrev pub bool_of_int : ℤ → Option Bool
 bool_of_int n = cond (int_lt n (pos 0)) None (cond (int_lt n (pos 1)) (Some false) (cond (int_lt n (pos 2)) (Some true) None))
 
+-- a truth value as an integer
 abbrev pub int_of_bool : Bool → ℤ
 int_of_bool true = pos 1
 int_of_bool false = pos 0

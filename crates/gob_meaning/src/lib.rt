@@ -6,11 +6,15 @@ ghost use Rattle.std.specs.Prelude.{ℕ, List};
 ghost use Rattle.gob_plan.specs.declared.units.Unit.{Unit as WorkUnit};
 ghost use Rattle.gob_meaning.specs.Laws.{FoldJoins, PartsJoin, IsPlainText, MakesItself, IsGoodAlone};
 ghost use Rattle.gob_meaning.specs.Fold.{Folded};
+ghost use Rattle.gob_meaning.specs.Job.{plain_plan};
+ghost use Rattle.gob_meaning.specs.Plans.{IsFitting};
+ghost use Rattle.gob_meaning.specs.Worked.{LinesExamples, CsvExamples, JsonExamples, StepExamples, RefusalExamples, TestExamples, PolicyExamples, WebTierExample};
 ghost use Rattle.gob_plan.specs.declared.plan.Plan.{Plan};
 
 /// Under the plain plan whole lines of UTF-8 are published as they are.
 pub fn lines_made_are_the_bytes()
     ensures made { (lo : ℕ) (bytes : List ℕ) → IsPlainText bytes → MakesItself lo bytes }
+    ensures fitting { IsFitting plain_plan }
     ensures good { (unit : WorkUnit) (bytes : List ℕ) → IsPlainText bytes → IsGoodAlone unit bytes }
 {}
 
@@ -18,4 +22,16 @@ pub fn lines_made_are_the_bytes()
 pub fn folds_join()
     ensures lines { (plan : Plan) (lo : ℕ) (x y : List ℕ) → FoldJoins plan lo x y }
     ensures parts { (plan : Plan) (x y : List Folded) → PartsJoin plan x y }
+{}
+
+/// Worked examples of all this, computed.
+pub fn worked_examples()
+    ensures lines { LinesExamples }
+    ensures csv { CsvExamples }
+    ensures json { JsonExamples }
+    ensures steps { StepExamples }
+    ensures refusals { RefusalExamples }
+    ensures tests { TestExamples }
+    ensures policies { PolicyExamples }
+    ensures web_tier { WebTierExample }
 {}

@@ -10,21 +10,25 @@ use Rattle.gob_plan.specs.declared.rows.Value.TheVariants as value
 use Rattle.gob_plan.specs.declared.rows.Column.{Column}
 use Rattle.gob_plan.specs.declared.rows.Row.{Row}
 
+-- the kind of truth values
 abbrev pub is_bool : Kind → Bool
 is_bool kind.Bool = true
 is_bool kind.Int = false
 is_bool kind.Text = false
 
+-- the kind of integers
 abbrev pub is_int : Kind → Bool
 is_int kind.Bool = false
 is_int kind.Int = true
 is_int kind.Text = false
 
+-- the kind of texts
 abbrev pub is_text : Kind → Bool
 is_text kind.Bool = false
 is_text kind.Int = false
 is_text kind.Text = true
 
+-- the value is Null
 abbrev pub is_null : Value → Bool
 is_null value.Null = true
 is_null (value.Bool b) = false
@@ -49,6 +53,7 @@ values_conform [] (v ∷ vs) = false
 values_conform (c ∷ cs) [] = false
 values_conform (c ∷ cs) (v ∷ vs) = may_stand c.kind v && values_conform cs vs
 
+-- the row conforms to the columns
 unfoldable pub conforms : List Column → Row → Bool
 conforms columns row = values_conform columns row.values
 

@@ -35,6 +35,7 @@ value_order (value.Text a) value.Null = None
 value_order (value.Text a) (value.Bool b) = None
 value_order (value.Text a) (value.Int b) = None
 
+-- an order is the one that is asked for
 abbrev pub order_is : How → Ordering → Bool
 order_is how.Eq o = is_eq o
 order_is how.Lt o = is_lt o
@@ -111,6 +112,7 @@ check_is_right (check.Compare h w) k = is_of k w
 check_is_right (check.Like pattern) k = true
 check_is_right (check.Bytes low high) k = nat_le low high
 
+-- the check goes with the kind of a column that is there
 abbrev pub fits_kind : Check → Option Kind → Bool
 fits_kind c None = false
 fits_kind c (Some k) = check_takes c k && check_is_right c k
