@@ -2,3 +2,4 @@ pub mod PlainLines
 pub mod Joins
 pub mod Examples
 pub mod Quick
+pub mod Apart

@@ -21,7 +21,8 @@ use Rattle.gob_meaning.specs.Results.{verdict_of, warnings_of}
 use Rattle.gob_meaning.specs.Job.{plain_plan}
 use Rattle.gob_meaning.specs.Laws.{has_crlf, IsPlainText, MakesItself, IsGoodAlone, all_written}
 
-or_parts : (s t : Bool) → (s || t) ≡ false → (s ≡ false) × (t ≡ false)
+-- neither of two that are not one or the other
+pub or_parts : (s t : Bool) → (s || t) ≡ false → (s ≡ false) × (t ≡ false)
 or_parts true t none = (none, absurd (true≢false none))
 or_parts false t none = (refl, none)
 

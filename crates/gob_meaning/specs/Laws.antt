@@ -1,15 +1,17 @@
 -- Laws of what units make.
-use Rattle.std.specs.Prelude.{◌≡◌, ◌≢◌, ◌⊎◌, ℕ, ◌+◌, ◌-◌, Bool, true, false, ◌&&◌, ◌||◌, nat_eq, List, [], ◌∷◌, ◌++◌, length, map, count_by}
+use Rattle.std.specs.Prelude.{◌≡◌, ◌≢◌, ◌⊎◌, ◌<◌, ◌^◌, ℕ, ◌+◌, ◌-◌, Bool, true, false, ◌&&◌, ◌||◌, nat_eq, List, [], ◌∷◌, ◌++◌, length, map, count_by}
 use Rattle.std.specs.declared.option.Option.TheVariants.{None, Some}
 use Rattle.std.specs.Str.{is_utf8}
 use Rattle.gob_bytes.specs.Lines.{lines, lines_from, start_from, rest, ends_in_lf}
 use Rattle.gob_plan.specs.declared.plan.Plan.{Plan}
 use Rattle.gob_plan.specs.declared.units.Counts.{Counts}
 use Rattle.gob_plan.specs.declared.units.Unit.{Unit as WorkUnit}
-use Rattle.gob_meaning.specs.Items.{Target, out}
+use Rattle.gob_meaning.specs.Items.{Target, out, err, bad}
 use Rattle.gob_meaning.specs.Fold.{Folded, folded_line, unit_fold, pieces_of, sent_to, is_bad, counts_of, capped, stops_or, stop_from, before_stop_from, stop_of, before_stop}
 use Rattle.gob_meaning.specs.Sums.{sum_of}
 use Rattle.gob_meaning.specs.Results.{good, verdict_of}
+use Rattle.gob_bytes.specs.Escapes.{AreBytes}
+use Rattle.gob_meaning.specs.Names.{target_name}
 use Rattle.gob_meaning.specs.Job.{plain_plan}
 
 -- ---- a text in two pieces
@@ -62,3 +64,26 @@ pub record MakesItself (lo : ℕ) (bytes : List ℕ) : Type 0 where
 -- and a unit of such bytes is good
 abbrev pub IsGoodAlone : WorkUnit → List ℕ → Type 0
 IsGoodAlone unit bytes = unit.listed ≡ true → ends_in_lf bytes ≡ true → verdict_of plain_plan unit bytes ≡ good (all_written (capped (length (lines bytes)))) []
+
+-- ---- names
+
+-- a place that a name can have: empty, or with a '/' at its end
+abbrev pub is_folder : List ℕ → Bool
+is_folder [] = true
+is_folder (b ∷ []) = nat_eq b 47
+is_folder (b ∷ c ∷ bs) = is_folder (c ∷ bs)
+
+-- a target whose place is a folder
+abbrev pub IsPlaced : Target → Type 0
+IsPlaced (out b place) = (b < 2 ^ 64) × (is_folder place ≡ true)
+IsPlaced (err b place) = (b < 2 ^ 64) × (is_folder place ≡ true)
+IsPlaced bad = Unit {0}
+
+-- a range of a partition, in bytes and offsets
+abbrev pub IsRange : List ℕ → ℕ → ℕ → Type 0
+IsRange part lo hi = AreBytes part × (lo < 2 ^ 64) × (hi < 2 ^ 64)
+
+-- two files of one name are of one target and one range of one partition, whatever the plans are
+abbrev pub NamesTellApart : Type 0
+NamesTellApart = (plan plan' : Plan) (part part' : List ℕ) (lo lo' hi hi' : ℕ) (t t' : Target) → IsRange part lo hi → IsRange part' lo' hi' → IsPlaced t → IsPlaced t'
+    → target_name plan part lo hi t ≡ target_name plan' part' lo' hi' t' → (part ≡ part') × (lo ≡ lo') × (hi ≡ hi') × (t ≡ t')

@@ -4,7 +4,7 @@
 
 ghost use Rattle.std.specs.Prelude.{ℕ, List};
 ghost use Rattle.gob_plan.specs.declared.units.Unit.{Unit as WorkUnit};
-ghost use Rattle.gob_meaning.specs.Laws.{FoldJoins, PartsJoin, IsPlainText, MakesItself, IsGoodAlone};
+ghost use Rattle.gob_meaning.specs.Laws.{NamesTellApart, FoldJoins, PartsJoin, IsPlainText, MakesItself, IsGoodAlone};
 ghost use Rattle.gob_meaning.specs.Fold.{Folded};
 ghost use Rattle.gob_meaning.specs.Job.{plain_plan};
 ghost use Rattle.gob_meaning.specs.Plans.{IsFitting};
@@ -34,4 +34,9 @@ pub fn worked_examples()
     ensures tests { TestExamples }
     ensures policies { PolicyExamples }
     ensures web_tier { WebTierExample }
+{}
+
+/// A file's name tells its target, its partition and its range.
+pub fn names_tell_apart()
+    ensures { NamesTellApart }
 {}
