@@ -93,6 +93,7 @@ decimal_apart m n small small' same =
     cc
 
 padded_lacks : (c k n : ℕ) → (c < 48) ⊎ (57 < c) → Lacks c (padded k n)
+unfolding padded
 padded_lacks c zero n apart = refl
 padded_lacks c (suc k) n apart = lacks_both c (padded k (n / 10)) ((48 + n % 10) ∷ []) (padded_lacks c k (n / 10) apart) (lacks-cons c (48 + n % 10) [] (ne_eqb (48 + n % 10) c (λ e. absurd (not_digit c (n % 10) (omega arith) apart e))) refl)
   where

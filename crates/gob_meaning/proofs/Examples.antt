@@ -7,7 +7,7 @@ use Rattle.percent_encoding.specs.Percent.{percent_encode_byte}
 use Rattle.csv.proofs.OnLiterals.{csv_on_literals}
 use Rattle.csv.specs.Writing.{escaped, fields_text, is_blank}
 use Rattle.serde_json.proofs.OnLiterals.{serde_json_on_literals}
-use Rattle.gob_bytes.specs.Digits.{offset}
+use Rattle.gob_bytes.specs.Digits.{padded, offset}
 use Rattle.gob_bytes.specs.Escapes as name
 use Rattle.gob_bytes.specs.Numbers.{integer_read}
 use Rattle.gob_plan.specs.Tests.{test_holds, test_fits}
@@ -25,7 +25,7 @@ use Rattle.gob_meaning.specs.Worked.{PlainLines, PlainUnit, PlainName, EscapedNa
 
 -- what an example unfolds to compute
 unfoldable pub on_literals : ⊤
-unfolding encode digits is_utf8 chars csv_on_literals escaped fields_text is_blank serde_json_on_literals offset name.escaped percent_encode_byte integer_read test_holds test_fits decoded encoded columns_after step_rows ruling picks place_of branch_items line_made unit_fold sent_to counts_of stop_of verdict_of warnings_of target_name plan_of
+unfolding encode digits is_utf8 chars csv_on_literals escaped fields_text is_blank serde_json_on_literals padded offset name.escaped percent_encode_byte integer_read test_holds test_fits decoded encoded columns_after step_rows ruling picks place_of branch_items line_made unit_fold sent_to counts_of stop_of verdict_of warnings_of target_name plan_of
 on_literals = tt
 
 plain_lines : PlainLines
