@@ -3,3 +3,4 @@ pub mod Joins
 pub mod Examples
 pub mod Quick
 pub mod Apart
+pub mod Keeps

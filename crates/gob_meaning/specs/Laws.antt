@@ -1,8 +1,22 @@
 -- Laws of what units make.
-use Rattle.std.specs.Prelude.{◌≡◌, ◌≢◌, ◌⊎◌, ◌<◌, ◌^◌, ℕ, ◌+◌, ◌-◌, Bool, true, false, ◌&&◌, ◌||◌, nat_eq, List, [], ◌∷◌, ◌++◌, length, map, count_by}
+use Rattle.std.specs.Prelude.{◌≡◌, ◌≢◌, ◌⊎◌, ◌↔◌, ◌<◌, ◌^◌, ℕ, ◌+◌, ◌-◌, Bool, true, false, ◌&&◌, ◌||◌, nat_eq, List, [], ◌∷◌, ◌++◌, length, map, count_by}
 use Rattle.std.specs.declared.option.Option.TheVariants.{None, Some}
+use Rattle.std.specs.declared.result.Result.TheVariants.{Ok}
 use Rattle.std.specs.Str.{is_utf8}
 use Rattle.gob_bytes.specs.Lines.{lines, lines_from, start_from, rest, ends_in_lf}
+use Rattle.gob_convert.specs.Made.{all_made}
+use Rattle.gob_plan.specs.declared.rows.Column.{Column}
+use Rattle.gob_plan.specs.declared.rows.Row.{Row}
+use Rattle.gob_plan.specs.declared.steps.StepSpec.{StepSpec}
+use Rattle.gob_plan.specs.declared.steps.StepSpec.TheVariants as step
+use Rattle.gob_plan.specs.declared.checks.TestSpec.{TestSpec}
+use Rattle.gob_plan.specs.Tests.{test_fits}
+use Rattle.gob_plan.specs.declared.plan.Format.{Format}
+use Rattle.gob_plan.specs.Columns.{is_columns}
+use Rattle.gob_plan.specs.Rows.{conforms}
+use Rattle.gob_meaning.specs.Formats.{decoded, encoded}
+use Rattle.gob_meaning.specs.Steps.{columns_after, step_rows}
+use Rattle.gob_meaning.specs.Plans.{reads_columns}
 use Rattle.gob_plan.specs.declared.plan.Plan.{Plan}
 use Rattle.gob_plan.specs.declared.units.Counts.{Counts}
 use Rattle.gob_plan.specs.declared.units.Unit.{Unit as WorkUnit}
@@ -87,3 +101,19 @@ IsRange part lo hi = AreBytes part × (lo < 2 ^ 64) × (hi < 2 ^ 64)
 abbrev pub NamesTellApart : Type 0
 NamesTellApart = (plan plan' : Plan) (part part' : List ℕ) (lo lo' hi hi' : ℕ) (t t' : Target) → IsRange part lo hi → IsRange part' lo' hi' → IsPlaced t → IsPlaced t'
     → target_name plan part lo hi t ≡ target_name plan' part' lo' hi' t' → (part ≡ part') × (lo ≡ lo') × (hi ≡ hi') × (t ≡ t')
+
+-- ---- rows that conform
+
+-- a step that isn't refused makes proper columns of proper ones, and of a row that conforms to those rows that conform to these
+pub record StepKeeps (s : StepSpec) (columns after : List Column) : Type 0 where
+  pub proper : is_columns columns ≡ true → columns_after s columns ≡ Ok after → is_columns after ≡ true
+  pub rows : (row : Row) → is_columns columns ≡ true → columns_after s columns ≡ Ok after → conforms columns row ≡ true → all_made (conforms after) (step_rows s columns row) ≡ true
+
+-- the rows that a line is conform to the columns it is read for, and a record ends in a line feed
+pub record FormatKeeps (f : Format) (columns : List Column) : Type 0 where
+  pub rows : (line : List ℕ) → reads_columns f columns ≡ true → all_made (conforms columns) (decoded f columns line) ≡ true
+  pub record_ends : (row : Row) (bytes : List ℕ) → encoded f columns row ≡ Some bytes → ends_in_lf bytes ≡ true
+
+-- a test fits columns exactly where the step that asks it isn't refused on them
+abbrev pub TestsFit : TestSpec → List Column → Type 0
+TestsFit t columns = (test_fits t columns ≡ true) ↔ (columns_after (step.Where t) columns ≡ Ok columns)

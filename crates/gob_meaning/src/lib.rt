@@ -4,12 +4,16 @@
 
 ghost use Rattle.std.specs.Prelude.{ℕ, List};
 ghost use Rattle.gob_plan.specs.declared.units.Unit.{Unit as WorkUnit};
-ghost use Rattle.gob_meaning.specs.Laws.{NamesTellApart, FoldJoins, PartsJoin, IsPlainText, MakesItself, IsGoodAlone};
+ghost use Rattle.gob_meaning.specs.Laws.{NamesTellApart, StepKeeps, FormatKeeps, TestsFit, FoldJoins, PartsJoin, IsPlainText, MakesItself, IsGoodAlone};
 ghost use Rattle.gob_meaning.specs.Fold.{Folded};
 ghost use Rattle.gob_meaning.specs.Job.{plain_plan};
 ghost use Rattle.gob_meaning.specs.Plans.{IsFitting};
 ghost use Rattle.gob_meaning.specs.Worked.{LinesExamples, CsvExamples, JsonExamples, StepExamples, RefusalExamples, TestExamples, PolicyExamples, WebTierExample};
 ghost use Rattle.gob_plan.specs.declared.plan.Plan.{Plan};
+ghost use Rattle.gob_plan.specs.declared.plan.Format.{Format};
+ghost use Rattle.gob_plan.specs.declared.rows.Column.{Column};
+ghost use Rattle.gob_plan.specs.declared.checks.TestSpec.{TestSpec};
+ghost use Rattle.gob_plan.specs.declared.steps.StepSpec.{StepSpec};
 
 /// Under the plain plan whole lines of UTF-8 are published as they are.
 pub fn lines_made_are_the_bytes()
@@ -39,4 +43,11 @@ pub fn worked_examples()
 /// A file's name tells its target, its partition and its range.
 pub fn names_tell_apart()
     ensures { NamesTellApart }
+{}
+
+/// Steps and formats make proper columns of proper ones and rows that conform of rows that conform.
+pub fn rows_conform()
+    ensures steps { (s : StepSpec) (columns after : List Column) → StepKeeps s columns after }
+    ensures formats { (f : Format) (columns : List Column) → FormatKeeps f columns }
+    ensures tests { (t : TestSpec) (columns : List Column) → TestsFit t columns }
 {}
