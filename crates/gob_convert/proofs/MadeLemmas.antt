@@ -2,7 +2,7 @@
 use Rattle.std.proofs.Common.{◌≡◌, Bool, true, List, [], ◌∷◌, ◌++◌, None, Some, refl, ap, sym, ◌∙◌, append_assoc, append-nil}
 use Rattle.std.specs.Cmp.Derive.{both_true}
 use Rattle.std.specs.List.{list_all}
-use Rattle.gob_convert.specs.Made.{Made, joined, made_each, then_each, all_made, shape_through}
+use Rattle.gob_convert.specs.Made.{Made, joined, made_each, then_each, all_made, made_through, shape_through}
 use Rattle.gob_convert.specs.Fitting.{left_true, right_true}
 
 pub joined-assoc : {A : Type 0} (a b c : Made A) → joined (joined a b) c ≡ joined a (joined b c)
@@ -58,3 +58,13 @@ made_each-one f x = joined-end (f x)
 pub shape_through-last : {C S : Type 0} (out_shape : C → S) (shape : S) (cs : List C) (c : C) → shape_through out_shape shape (cs ++ c ∷ []) ≡ out_shape c
 shape_through-last out_shape shape [] c = refl
 shape_through-last out_shape shape (d ∷ ds) c = shape_through-last out_shape (out_shape d) ds c
+
+-- two converters over what was made
+pub then_each-then_each : {A B C : Type 0} (f : A → Made B) (g : B → Made C) (m : Made A) → then_each (λ x. then_each g (f x)) m ≡ then_each g (then_each f m)
+then_each-then_each f g None = refl
+then_each-then_each f g (Some xs) = made_each-then_each f g xs
+
+-- a list of converters and then another
+pub made_through-append : {C A : Type 0} (made : C → A → Made A) (cs ds : List C) (x : A) → made_through made (cs ++ ds) x ≡ then_each (made_through made ds) (made_through made cs x)
+made_through-append made [] ds x = sym (made_each-one (made_through made ds) x)
+made_through-append made (c ∷ cs) ds x = (λ i. then_each (λ y. made_through-append made cs ds y i) (made c x)) ∙ then_each-then_each (made_through made cs) (made_through made ds) (made c x)

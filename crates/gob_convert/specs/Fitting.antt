@@ -1,5 +1,5 @@
 -- Laws of what is made, for the laws of converters that are made of others: where each part keeps a test, so does the whole.
-use Rattle.std.proofs.Common.{◌≡◌, Bool, true, false, ◌&&◌, List, [], ◌∷◌, None, Some, refl, sym, ◌∙◌, subst, arith}
+use Rattle.std.proofs.Common.{◌≡◌, Bool, true, false, ◌&&◌, List, [], ◌∷◌, ◌++◌, None, Some, refl, sym, ◌∙◌, subst, arith}
 use Rattle.std.proofs.lemmas.Grind.{common_steps}
 use Rattle.std.specs.Cmp.Derive.{both_true}
 use Rattle.std.specs.List.{list_all}
@@ -35,3 +35,8 @@ all_made-through {S = S} fits out_fits same shape_of out_shape made keeps shape 
     (λ y fit_between. all_made-through fits out_fits same shape_of out_shape made keeps (out_shape c) cs follow.1 y (same (out_shape c) y ∙ fit_between))
     (made c x)
     (keeps c x (let P : S → Type 0 = λ s. fits s x ≡ true in subst P (sym follow.0) fit))
+
+-- one more converter, that takes the shape behind the others
+pub Follow-append : {C S : Type 0} (shape_of out_shape : C → S) (shape : S) (cs : List C) (c : C) → Follow shape_of out_shape shape cs → shape_of c ≡ shape_through out_shape shape cs → Follow shape_of out_shape shape (cs ++ c ∷ [])
+Follow-append shape_of out_shape shape [] c follow takes = (takes, tt)
+Follow-append shape_of out_shape shape (d ∷ ds) c follow takes = (follow.0, Follow-append shape_of out_shape (out_shape d) ds c follow.1 takes)
