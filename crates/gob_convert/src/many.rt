@@ -9,7 +9,7 @@ use crate::convert::{Convert, ConvertFault, convert_each};
 use std::alloc::Global;
 
 /// Converters of one kind: each next one converts the records that the one before makes. An empty list gives each
-/// record as it is.
+/// record as it is. While one record is on its way, a step costs the list that it makes of it and no other.
 #[derive(Drop)]
 pub struct Many<A: Convert<OutShape = A::Shape, Out = A::Rec>> {
     list: Vec<A>,
