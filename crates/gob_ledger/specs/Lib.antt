@@ -8,3 +8,4 @@ pub mod Totals
 pub mod Spelling
 pub mod Turns
 pub mod Examples
+pub mod Laws

@@ -1,13 +1,13 @@
 -- What a job has committed.
-use Rattle.std.specs.Prelude.{◌≡◌, ℕ, ◌+◌, List, [], ◌∷◌, map}
+use Rattle.std.specs.Prelude.{◌≡◌, ℕ, ◌+◌, ◌<◌, List, [], ◌∷◌, map, length}
 use Rattle.std.specs.declared.option.Option.{Option}
 use Rattle.std.specs.declared.option.Option.TheVariants.{Some}
-use Rattle.std.specs.List.{range_with_len}
+use Rattle.std.specs.List.{range_with_len, Contains}
 use Rattle.gob_plan.specs.declared.units.BranchCounts.{BranchCounts}
 use Rattle.gob_plan.specs.declared.units.Counts.{Counts}
 use Rattle.gob_bytes.specs.Tables.{Table, at_name}
 use Rattle.gob_meaning.specs.Fold.{capped}
-use Rattle.gob_ledger.specs.Marks.{Marks, Tiled}
+use Rattle.gob_ledger.specs.Marks.{Marks, Done, Tiled}
 
 -- the commits so far, the pipelines that made them, what they made in all, and each partition's ranges
 pub record State : Type 0 where
@@ -48,6 +48,7 @@ empty_state pipelines branches = record { run = 0; pipelines = pipelines; totals
 abbrev pub marks_at : State → List ℕ → Option Marks
 marks_at s part = at_name s.parts part
 
--- every partition is tiled by its ranges
-abbrev pub TiledState : State → Type 0
-TiledState s = (part : List ℕ) (m : Marks) → marks_at s part ≡ Some m → Tiled m
+-- every partition is tiled by its ranges, and each done one names a pipeline of the state
+pub record TiledState (s : State) : Type 0 where
+  pub tiled : (part : List ℕ) (m : Marks) → marks_at s part ≡ Some m → Tiled m
+  pub indexed : (part : List ℕ) (m : Marks) (d : Done) → marks_at s part ≡ Some m → Contains m.finished d → d.pipeline < length s.pipelines
