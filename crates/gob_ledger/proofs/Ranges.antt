@@ -156,6 +156,15 @@ owed_below m tiled s h =
     let once : times at (done_spans m) + times at m.owed ≡ cond (nat_lt at m.next) 1 0 = sym (covered-is at m) ∙ tiled.once at in
     grind (arith, nat_tests, some)
 
+-- each done range isn't empty, and ends before next
+pub done_below : (m : Marks) → Tiled m → (s : Span) → Contains (done_spans m) s → (s.lo < s.hi) × (s.hi ≤ m.next)
+done_below m tiled s h =
+    let some = (order_members 0 (done_spans m) s tiled.finished h).1 in
+    let at : ℕ = s.hi - 1 in
+    let one : 1 ≤ times at (done_spans m) = times_some at (done_spans m) s h (inside at s (omega (arith, some)) (omega (arith, some))) in
+    let once : times at (done_spans m) + times at m.owed ≡ cond (nat_lt at m.next) 1 0 = sym (covered-is at m) ∙ tiled.once at in
+    (some, grind (arith, nat_tests, some))
+
 pub tiled_owed : (m : Marks) (s : Span) → Tiled m → s.lo ≡ m.next → s.lo < s.hi → Tiled (with_owed s m)
 tiled_owed m s tiled next some = record {
   finished = tiled.finished;

@@ -1,12 +1,21 @@
 -- The laws of the ledger.
-use Rattle.std.specs.Prelude.{◌≡◌, ℕ, List, length}
-use Rattle.gob_bytes.specs.Tables.{names_of, Rising}
+use Rattle.std.specs.Prelude.{◌≡◌, ◌⊎◌, ◌↔◌, ℕ, true, List, length}
+use Rattle.std.specs.declared.option.Option.TheVariants.{Some}
+use Rattle.std.specs.List.{zip, Contains}
+use Rattle.gob_bytes.specs.Tables.{at_name, names_of, Rising}
+use Rattle.gob_device.specs.Supply.{Held}
 use Rattle.gob_plan.specs.declared.plan.CommitPolicy.{CommitPolicy}
+use Rattle.gob_plan.specs.declared.plan.Limits.{Limits}
+use Rattle.gob_plan.specs.declared.plan.Plan.{Plan}
 use Rattle.gob_plan.specs.declared.units.Unit.{Unit as WorkUnit}
 use Rattle.gob_meaning.specs.Results.{Verdict}
+use Rattle.gob_meaning.specs.Job.{plan_of}
 use Rattle.gob_ledger.specs.State.{State, TiledState}
-use Rattle.gob_ledger.specs.Units.{UnitsFit}
-use Rattle.gob_ledger.specs.Next.{next_state}
+use Rattle.gob_ledger.specs.Units.{UnitsFit, span_of, units_of}
+use Rattle.gob_ledger.specs.Next.{allowed_units, next_state}
+use Rattle.gob_ledger.specs.Archive.{Agrees, Grows, LiesOnLines, IsWithin}
+use Rattle.gob_ledger.specs.Expected.{IsExpected, IsPublished}
+use Rattle.gob_ledger.specs.Totals.{counted_in}
 
 -- a state that is tiled stays so after a run over units that fit it
 abbrev pub NextTiles : Type 0
@@ -17,3 +26,29 @@ NextTiles = (s : State) (pipeline : List ℕ) (units : List WorkUnit) (verdicts 
 abbrev pub NextInOrder : Type 0
 NextInOrder = (s : State) (pipeline : List ℕ) (units : List WorkUnit) (verdicts : List Verdict) (policy : CommitPolicy)
     → Rising (names_of s.parts) → Rising (names_of (next_state s pipeline units verdicts policy).parts)
+
+-- what a run adds to what is expected is what its committed units make, with the plan of its pipeline
+abbrev pub NextExpects : Type 0
+NextExpects = (job : List ℕ) (s : State) (pipeline : List ℕ) (plan : Plan) (units : List WorkUnit) (verdicts : List Verdict) (policy : CommitPolicy) (archive : Held) (name content : List ℕ)
+    → TiledState s → plan_of pipeline ≡ Some plan
+    → IsExpected job (next_state s pipeline units verdicts policy) archive name content
+    ↔ (IsExpected job s archive name content ⊎ IsPublished job plan archive (allowed_units policy (zip units verdicts)) name content)
+
+-- what the later archive says of a state that lies in the earlier one
+pub record SaysTheSame (archive later : Held) (s : State) : Type 0 where
+  pub within : IsWithin later s
+  pub counted : counted_in s later ≡ counted_in s archive
+  pub expected : (job name content : List ℕ) → IsExpected job s archive name content ↔ IsExpected job s later name content
+
+-- partitions that grow change nothing of what a state means
+abbrev pub GrownArchive : Type 0
+GrownArchive = (archive later : Held) (s : State) → Grows archive later → IsWithin archive s → TiledState s → Rising (names_of s.parts) → SaysTheSame archive later s
+
+-- the units of a run fit the state that it found
+abbrev pub UnitsFitState : Type 0
+UnitsFitState = (s : State) (held : Held) (limits : Limits) → TiledState s → Rising (names_of s.parts) → Rising (names_of held) → UnitsFit s.parts (units_of s held limits)
+
+-- a listed unit lies in its partition, on whole lines
+abbrev pub UnitsLieOnLines : Type 0
+UnitsLieOnLines = (archive held : Held) (s : State) (limits : Limits) (u : WorkUnit) → Agrees archive held → IsWithin archive s → TiledState s → Rising (names_of s.parts) → Rising (names_of held)
+    → Contains (units_of s held limits) u → u.listed ≡ true → (bytes : List ℕ) × (at_name held u.part ≡ Some bytes) × LiesOnLines bytes (span_of u)
