@@ -57,11 +57,11 @@ done_bytes_stay archive later s part m d grows within tiled at h =
     let fits : d.span.hi ≤ length w.0 = let r = w.2.reached in omega (arith, r, b.1) in
     bytes_stay archive later part w.0 d.span grows w.1 b.0 fits
 
-map_alike : {X Y : Type 0} (f g : X → Y) (xs : List X) → ((x : X) → Contains xs x → f x ≡ g x) → map f xs ≡ map g xs
+pub map_alike : {X Y : Type 0} (f g : X → Y) (xs : List X) → ((x : X) → Contains xs x → f x ≡ g x) → map f xs ≡ map g xs
 map_alike f g [] same = refl
 map_alike f g (x ∷ xs) same = λ i. same x (first_in x xs x refl) i ∷ map_alike f g xs (λ y h. same y (later_in x xs y h)) i
 
-flat_map_alike : {X Y : Type 0} (f g : X → List Y) (xs : List X) → ((x : X) → Contains xs x → f x ≡ g x) → flat_map f xs ≡ flat_map g xs
+pub flat_map_alike : {X Y : Type 0} (f g : X → List Y) (xs : List X) → ((x : X) → Contains xs x → f x ≡ g x) → flat_map f xs ≡ flat_map g xs
 flat_map_alike f g [] same = refl
 flat_map_alike f g (x ∷ xs) same = λ i. same x (first_in x xs x refl) i ++ flat_map_alike f g xs (λ y h. same y (later_in x xs y h)) i
 

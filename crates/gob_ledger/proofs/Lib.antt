@@ -6,3 +6,4 @@ pub mod Tiling
 pub mod Expecting
 pub mod Grown
 pub mod Cutting
+pub mod Sums

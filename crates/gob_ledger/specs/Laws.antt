@@ -12,10 +12,10 @@ use Rattle.gob_meaning.specs.Results.{Verdict}
 use Rattle.gob_meaning.specs.Job.{plan_of}
 use Rattle.gob_ledger.specs.State.{State, TiledState}
 use Rattle.gob_ledger.specs.Units.{UnitsFit, span_of, units_of}
-use Rattle.gob_ledger.specs.Next.{allowed_units, next_state}
+use Rattle.gob_ledger.specs.Next.{Judged, allowed_units, counts_in, next_state}
 use Rattle.gob_ledger.specs.Archive.{Agrees, Grows, LiesOnLines, IsWithin}
 use Rattle.gob_ledger.specs.Expected.{IsExpected, IsPublished}
-use Rattle.gob_ledger.specs.Totals.{counted_in}
+use Rattle.gob_ledger.specs.Totals.{SameCounts, counted_in, span_counts}
 
 -- a state that is tiled stays so after a run over units that fit it
 abbrev pub NextTiles : Type 0
@@ -52,3 +52,14 @@ UnitsFitState = (s : State) (held : Held) (limits : Limits) → TiledState s →
 abbrev pub UnitsLieOnLines : Type 0
 UnitsLieOnLines = (archive held : Held) (s : State) (limits : Limits) (u : WorkUnit) → Agrees archive held → IsWithin archive s → TiledState s → Rising (names_of s.parts) → Rising (names_of held)
     → Contains (units_of s held limits) u → u.listed ≡ true → (bytes : List ℕ) × (at_name held u.part ≡ Some bytes) × LiesOnLines bytes (span_of u)
+
+-- each of these units counted what its range makes
+abbrev pub CountsAre : Held → Plan → List Judged → Type 0
+CountsAre archive plan units = (j : Judged) → Contains units j → counts_in j.1 ≡ Some (span_counts plan archive j.0.part (span_of j.0))
+
+-- totals that are the sums over the done ranges stay so
+abbrev pub NextTotals : Type 0
+NextTotals = (s : State) (pipeline : List ℕ) (plan : Plan) (units : List WorkUnit) (verdicts : List Verdict) (policy : CommitPolicy) (archive : Held)
+    → TiledState s → Rising (names_of s.parts) → plan_of pipeline ≡ Some plan → CountsAre archive plan (allowed_units policy (zip units verdicts))
+    → SameCounts s.totals (counted_in s archive)
+    → SameCounts (next_state s pipeline units verdicts policy).totals (counted_in (next_state s pipeline units verdicts policy) archive)

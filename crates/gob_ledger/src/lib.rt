@@ -2,7 +2,7 @@
 #![tactic(auto)]
 
 ghost use Rattle.gob_ledger.specs.Examples.{WorkedExamples};
-ghost use Rattle.gob_ledger.specs.Laws.{GrownArchive, NextExpects, NextInOrder, NextTiles, UnitsFitState, UnitsLieOnLines};
+ghost use Rattle.gob_ledger.specs.Laws.{GrownArchive, NextExpects, NextInOrder, NextTiles, NextTotals, UnitsFitState, UnitsLieOnLines};
 
 /// What the definitions make of small partitions, by computing.
 pub fn worked_examples()
@@ -37,4 +37,9 @@ pub fn next_state_expects()
 /// Where partitions grow, what is expected of a state and what it counted stay as they were.
 pub fn grown_archive_says_the_same()
     ensures { GrownArchive }
+{}
+
+/// Totals that are the sums of what the done ranges made stay so after a run.
+pub fn next_state_totals()
+    ensures { NextTotals }
 {}
