@@ -1,7 +1,17 @@
 //! Commit sequences and what settling makes of a map of files: definitions and their laws. No function works here.
 #![tactic(auto)]
 
-ghost use Rattle.gob_recovery.specs.Laws.{ImagesSettleAlike, SettlingCanBeRepeated};
+ghost use Rattle.gob_recovery.specs.Laws.{ImagesSettleAlike, OneSpelling, SettlesToOne, SettlingCanBeRepeated};
+
+/// A sequence's text determines its steps.
+pub fn one_spelling_a_sequence()
+    ensures { OneSpelling }
+{}
+
+/// A map settles to at most one map.
+pub fn a_map_settles_to_one()
+    ensures { SettlesToOne }
+{}
 
 /// A sequence that was stopped after any number of its steps is settled as if it had not been begun.
 pub fn settling_can_be_repeated()
