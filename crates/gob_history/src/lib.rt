@@ -1,9 +1,14 @@
 //! What maps of files stand for over lists of runs, wherever each run is stopped: definitions and their laws. No function works here.
 #![tactic(auto)]
 
-ghost use Rattle.gob_history.specs.Sound.{SteadyStands};
+ghost use Rattle.gob_history.specs.Sound.{StandingIsSteady, SteadyStands};
 
 /// Whatever settles to a steady map stands for that map's state, whatever a crash leaves of it.
 pub fn steady_stands()
     ensures { SteadyStands }
+{}
+
+/// What stands for a state settles to a steady map that stores it.
+pub fn standing_is_steady()
+    ensures { StandingIsSteady }
 {}
