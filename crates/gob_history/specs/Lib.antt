@@ -1,3 +1,4 @@
 pub mod Sound
 pub mod Runs
 pub mod Rounds
+pub mod Examples

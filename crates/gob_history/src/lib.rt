@@ -1,6 +1,7 @@
 //! What maps of files stand for over lists of runs, wherever each run is stopped: definitions and their laws. No function works here.
 #![tactic(auto)]
 
+ghost use Rattle.gob_history.specs.Examples.{PlainHistory};
 ghost use Rattle.gob_history.specs.Sound.{StandingIsSteady, SteadyStands};
 
 /// Whatever settles to a steady map stands for that map's state, whatever a crash leaves of it.
@@ -11,4 +12,9 @@ pub fn steady_stands()
 /// What stands for a state settles to a steady map that stores it.
 pub fn standing_is_steady()
     ensures { StandingIsSteady }
+{}
+
+/// One plain run from an empty volume: its maps stand for their states, and it is a history.
+pub fn a_plain_history()
+    ensures { PlainHistory }
 {}
