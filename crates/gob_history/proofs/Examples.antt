@@ -27,7 +27,8 @@ use Rattle.gob_meaning.specs.Names.{target_name}
 use Rattle.gob_meaning.specs.Policies.{ruling}
 use Rattle.gob_meaning.specs.Results.{warnings_of, verdict_of}
 use Rattle.gob_ledger.specs.Marks.{Marks, Done, Tiled, times_covered}
-use Rattle.gob_ledger.specs.State.{State, marks_at, no_counts, sum_of, TiledState}
+use Rattle.gob_meaning.specs.Sums.{sum_of}
+use Rattle.gob_ledger.specs.State.{State, marks_at, no_counts, TiledState}
 use Rattle.gob_ledger.specs.Archive.{LiesOnLines, LiesIn}
 use Rattle.gob_ledger.specs.Totals.{counted_in, SameCounts}
 use Rattle.gob_ledger.specs.Units.{units_of_parts}

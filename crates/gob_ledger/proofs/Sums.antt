@@ -15,7 +15,8 @@ use Rattle.gob_plan.specs.declared.units.Counts.{Counts}
 use Rattle.gob_meaning.specs.Fold.{Folded, capped, counts_of, branch_counts}
 use Rattle.gob_meaning.specs.Job.{plan_of}
 use Rattle.gob_ledger.specs.Marks.{Marks, Span, Done}
-use Rattle.gob_ledger.specs.State.{State, no_branch, no_counts, both_branches, branch_sums, sum_of, TiledState}
+use Rattle.gob_meaning.specs.Sums.{both_branches, branch_sums, sum_of}
+use Rattle.gob_ledger.specs.State.{State, no_branch, no_counts, TiledState}
 use Rattle.gob_ledger.specs.Units.{span_of}
 use Rattle.gob_ledger.specs.Next.{Judged, no_marks, insert_done, with_owed, with_done, change_part, add_unit, finish_unit, fold_units, counts_in, plus, with_pipeline, pipeline_index, committed_or, allowed_units, next_state}
 use Rattle.gob_ledger.specs.Totals.{span_counts, plan_at, counts_where, done_counts, part_counts, sum_counts, counted_in, branch_at}

@@ -12,7 +12,8 @@ use Rattle.gob_plan.specs.declared.units.Unit.{Unit as WorkUnit}
 use Rattle.gob_meaning.specs.Fold.{capped}
 use Rattle.gob_meaning.specs.Results.{Verdict, good, failed}
 use Rattle.gob_ledger.specs.Marks.{Marks, Span, Done}
-use Rattle.gob_ledger.specs.State.{State, marks_at, sum_of}
+use Rattle.gob_meaning.specs.Sums.{sum_of}
+use Rattle.gob_ledger.specs.State.{State, marks_at}
 use Rattle.gob_ledger.specs.Units.{span_of, same_span}
 
 abbrev pub is_good : Verdict → Bool

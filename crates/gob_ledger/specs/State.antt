@@ -1,12 +1,11 @@
 -- What a job has committed.
-use Rattle.std.specs.Prelude.{◌≡◌, ℕ, ◌+◌, ◌<◌, List, [], ◌∷◌, map, length}
+use Rattle.std.specs.Prelude.{◌≡◌, ℕ, ◌<◌, List, [], ◌∷◌, map, length}
 use Rattle.std.specs.declared.option.Option.{Option}
 use Rattle.std.specs.declared.option.Option.TheVariants.{Some}
 use Rattle.std.specs.List.{range_with_len, Contains}
 use Rattle.gob_plan.specs.declared.units.BranchCounts.{BranchCounts}
 use Rattle.gob_plan.specs.declared.units.Counts.{Counts}
 use Rattle.gob_bytes.specs.Tables.{Table, at_name}
-use Rattle.gob_meaning.specs.Fold.{capped}
 use Rattle.gob_ledger.specs.Marks.{Marks, Done, Tiled}
 
 -- the commits so far, the pipelines that made them, what they made in all, and each partition's ranges
@@ -21,25 +20,6 @@ no_branch = record { written = 0; errors = 0; optional = 0 }
 
 abbrev pub no_counts : ℕ → Counts
 no_counts branches = record { records = 0; bad = 0; rows = 0; unrouted = 0; branches = map (λ _. no_branch) (range_with_len 0 branches) }
-
-abbrev pub both_branches : BranchCounts → BranchCounts → BranchCounts
-both_branches a b = record { written = capped (a.written + b.written); errors = capped (a.errors + b.errors); optional = capped (a.optional + b.optional) }
-
--- a branch that one side lacks counts as zero
-abbrev pub branch_sums : List BranchCounts → List BranchCounts → List BranchCounts
-branch_sums [] bs = bs
-branch_sums (a ∷ later) [] = a ∷ later
-branch_sums (a ∷ later) (b ∷ bs) = both_branches a b ∷ branch_sums later bs
-
--- what two units made together
-unfoldable pub sum_of : Counts → Counts → Counts
-sum_of a b = record {
-  records = capped (a.records + b.records);
-  bad = capped (a.bad + b.bad);
-  rows = capped (a.rows + b.rows);
-  unrouted = capped (a.unrouted + b.unrouted);
-  branches = branch_sums a.branches b.branches;
-}
 
 -- nothing is committed yet
 abbrev pub empty_state : List (List ℕ) → ℕ → State

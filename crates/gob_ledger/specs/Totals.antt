@@ -11,7 +11,8 @@ use Rattle.gob_plan.specs.declared.units.Counts.{Counts}
 use Rattle.gob_meaning.specs.Fold.{unit_fold, counts_of}
 use Rattle.gob_meaning.specs.Job.{plan_of}
 use Rattle.gob_ledger.specs.Marks.{Marks, Span, Done}
-use Rattle.gob_ledger.specs.State.{State, no_branch, no_counts, sum_of}
+use Rattle.gob_meaning.specs.Sums.{sum_of}
+use Rattle.gob_ledger.specs.State.{State, no_branch, no_counts}
 use Rattle.gob_ledger.specs.Expected.{bytes_in}
 
 -- what a range of a partition makes
