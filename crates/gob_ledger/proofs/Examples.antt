@@ -17,7 +17,6 @@ use Rattle.gob_meaning.specs.Policies.{ruling}
 use Rattle.gob_meaning.specs.Results.{warnings_of, verdict_of}
 use Rattle.gob_ledger.specs.Marks.{is_done}
 use Rattle.gob_meaning.specs.Sums.{sum_of}
-
 use Rattle.gob_ledger.specs.Units.{units_of_parts}
 use Rattle.gob_ledger.specs.Next.{next_state}
 use Rattle.gob_ledger.specs.Spelling.{state_text}

@@ -7,3 +7,4 @@ pub mod Expecting
 pub mod Grown
 pub mod Cutting
 pub mod Sums
+pub mod Within

@@ -200,7 +200,7 @@ distinct_filter p (j ∷ js) apart = elim (p j) as (λ b. IsDistinct same_unit (
   | false ↦ distinct_filter p js apart.1
 ]
 
-filter_units : (p : Judged → Bool) (js : List Judged) (k : WorkUnit) → Contains (units_in (filter p js)) k → Contains (units_in js) k
+pub filter_units : (p : Judged → Bool) (js : List Judged) (k : WorkUnit) → Contains (units_in (filter p js)) k → Contains (units_in js) k
 filter_units p js k h =
     let r = in_map (λ (j : Judged). j.0) (filter p js) k h in
     subst (Contains (units_in js)) r.2 (map_in (λ (j : Judged). j.0) js r.0 (in_filter p js r.0 r.1).0)

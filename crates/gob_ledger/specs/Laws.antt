@@ -48,10 +48,14 @@ GrownArchive = (archive later : Held) (s : State) → Grows archive later → Is
 abbrev pub UnitsFitState : Type 0
 UnitsFitState = (s : State) (held : Held) (limits : Limits) → TiledState s → Rising (names_of s.parts) → Rising (names_of held) → UnitsFit s.parts (units_of s held limits)
 
+-- the unit lies in this archive, on whole lines
+abbrev pub Lies : Held → WorkUnit → Type 0
+Lies archive u = (bytes : List ℕ) × (at_name archive u.part ≡ Some bytes) × LiesOnLines bytes (span_of u)
+
 -- a listed unit lies in its partition, on whole lines
 abbrev pub UnitsLieOnLines : Type 0
 UnitsLieOnLines = (archive held : Held) (s : State) (limits : Limits) (u : WorkUnit) → Agrees archive held → IsWithin archive s → TiledState s → Rising (names_of s.parts) → Rising (names_of held)
-    → Contains (units_of s held limits) u → u.listed ≡ true → (bytes : List ℕ) × (at_name held u.part ≡ Some bytes) × LiesOnLines bytes (span_of u)
+    → Contains (units_of s held limits) u → u.listed ≡ true → Lies held u
 
 -- each of these units counted what its range makes
 abbrev pub CountsAre : Held → Plan → List Judged → Type 0
@@ -63,3 +67,9 @@ NextTotals = (s : State) (pipeline : List ℕ) (plan : Plan) (units : List WorkU
     → TiledState s → Rising (names_of s.parts) → plan_of pipeline ≡ Some plan → CountsAre archive plan (allowed_units policy (zip units verdicts))
     → SameCounts s.totals (counted_in s archive)
     → SameCounts (next_state s pipeline units verdicts policy).totals (counted_in (next_state s pipeline units verdicts policy) archive)
+
+-- ranges that lie in an archive do so after a run whose new units lie in it
+abbrev pub NextWithin : Type 0
+NextWithin = (s : State) (pipeline : List ℕ) (units : List WorkUnit) (verdicts : List Verdict) (policy : CommitPolicy) (archive : Held) → length verdicts ≡ length units
+    → UnitsFit s.parts units → IsWithin archive s → ((u : WorkUnit) → Contains units u → u.fresh ≡ true → Lies archive u)
+    → IsWithin archive (next_state s pipeline units verdicts policy)

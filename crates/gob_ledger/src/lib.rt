@@ -2,7 +2,7 @@
 #![tactic(auto)]
 
 ghost use Rattle.gob_ledger.specs.Examples.{WorkedExamples};
-ghost use Rattle.gob_ledger.specs.Laws.{GrownArchive, NextExpects, NextInOrder, NextTiles, NextTotals, UnitsFitState, UnitsLieOnLines};
+ghost use Rattle.gob_ledger.specs.Laws.{GrownArchive, NextExpects, NextInOrder, NextTiles, NextTotals, NextWithin, UnitsFitState, UnitsLieOnLines};
 
 /// What the definitions make of small partitions, by computing.
 pub fn worked_examples()
@@ -42,4 +42,9 @@ pub fn grown_archive_says_the_same()
 /// Totals that are the sums of what the done ranges made stay so after a run.
 pub fn next_state_totals()
     ensures { NextTotals }
+{}
+
+/// Ranges that lie in an archive on whole lines do so after a run whose new units lie in it.
+pub fn next_state_lies_within()
+    ensures { NextWithin }
 {}
