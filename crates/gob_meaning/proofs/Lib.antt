@@ -4,3 +4,4 @@ pub mod Examples
 pub mod Quick
 pub mod Apart
 pub mod Keeps
+pub mod Placed
