@@ -2,6 +2,7 @@
 #![tactic(auto)]
 
 ghost use Rattle.gob_history.specs.Examples.{PlainHistory};
+ghost use Rattle.gob_history.specs.Laws.{RunLeavesSound};
 ghost use Rattle.gob_history.specs.Sound.{StandingIsSteady, SteadyStands};
 
 /// Whatever settles to a steady map stands for that map's state, whatever a crash leaves of it.
@@ -17,4 +18,9 @@ pub fn standing_is_steady()
 /// One plain run from an empty volume: its maps stand for their states, and it is a history.
 pub fn a_plain_history()
     ensures { PlainHistory }
+{}
+
+/// A run from a sound map leaves one that is sound for the state after it.
+pub fn a_run_leaves_a_sound_map()
+    ensures { RunLeavesSound }
 {}

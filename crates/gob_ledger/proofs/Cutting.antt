@@ -15,7 +15,7 @@ use Rattle.gob_plan.specs.declared.plan.Limits.{Limits}
 use Rattle.gob_plan.specs.declared.units.Unit.{Unit as WorkUnit}
 use Rattle.gob_ledger.specs.Marks.{Marks, Span, Tiled, done_spans, spans_of, has, InOrder}
 use Rattle.gob_ledger.specs.State.{State, marks_at, TiledState}
-use Rattle.gob_ledger.specs.Units.{cut_end, then_cuts, cuts, is_kept, next_of, span_of, new_unit, cuts_of, in_rounds, kept_parts, all_cuts, owed_unit, owed_units, new_units, units_of_parts, Follow, fresh_in, same_span, same_unit, IsOwed}
+use Rattle.gob_ledger.specs.Units.{cut_end, then_cuts, cuts, is_kept, next_of, span_of, new_unit, cuts_of, in_rounds, kept_parts, all_cuts, owed_unit, owed_units, new_units, units_of_parts, units_of, Follow, fresh_in, same_span, same_unit, IsOwed}
 use Rattle.gob_ledger.specs.Archive.{IsLineStart, LiesOnLines, LiesIn, IsWithin}
 use Rattle.gob_ledger.specs.Laws.{UnitsFitState, UnitsLieOnLines}
 use Rattle.gob_ledger.proofs.Members.{none_in, first_in, later_in, in_cases, in_filter, filter_in, in_map, in_flat_map}
@@ -272,7 +272,7 @@ other_lo u v below = elim (same_unit u v) as (λ b. same_unit u v ≡ b → b �
   | false ↦ λ e. refl
 ] refl
 
-follow_above : (from : ℕ) (us : List WorkUnit) (u : WorkUnit) → Follow from us → Contains us u → (from ≤ u.lo) × (u.lo < u.hi)
+pub follow_above : (from : ℕ) (us : List WorkUnit) (u : WorkUnit) → Follow from us → Contains us u → (from ≤ u.lo) × (u.lo < u.hi)
 follow_above from [] u f h = none_in u h
 follow_above from (v ∷ vs) u (a, b, c) h = ⊎_elim
     (λ same. subst (λ (x : WorkUnit). (from ≤ x.lo) × (x.lo < x.hi)) same (omega arith, b))
@@ -419,7 +419,7 @@ next_starts m bytes tiled lies = elim (nat_lt 0 m.next) as (λ b. nat_lt 0 m.nex
       let once : times at (done_spans m) + times at m.owed ≡ cond (nat_lt at m.next) 1 0 = sym (covered-is at m) ∙ tiled.once at in
       let in_one : cond (nat_lt at m.next) 1 0 ≡ 1 = ap (λ b. cond b 1 0) (lt-ltb at m.next (omega (arith, some))) in
       let all : times at (spans_of m) ≡ 1 = times-append at (done_spans m) m.owed ∙ (once ∙ in_one) in
-      let there = times_gives at (spans_of m) (omega (arith, all)) in
+      let there = times_gives at (spans_of m) (subst (λ n. 1 ≤ n) (sym all) (omega arith)) in
       let above : at < there.0.hi = (within at there.0 there.2).1 in
       let below : there.0.hi ≤ m.next = ⊎_elim (λ h. (done_below m tiled there.0 h).1) (λ h. owed_below m tiled there.0 h) (Contains-append_cases (done_spans m) m.owed there.0 there.1) in
       let ends : there.0.hi ≡ m.next = omega (arith, some, above, below) in
@@ -463,3 +463,11 @@ units_lie archive held s limits u agrees lies tiled rising order h listed = ⊎_
         (λ e. subst (IsLineStart n.entry.1) (sym e) (next_of_starts archive s n.entry.0 n.entry.1 lies tiled (agrees n.entry.0 n.entry.1 at)))
         (λ e. inr e) c.0 in
         subst (λ (x : WorkUnit). (bytes : List ℕ) × (at_name held x.part ≡ Some bytes) × LiesOnLines bytes (span_of x)) n.is (n.entry.1, at, record { lo = lo; hi = c.1 })
+
+-- a fresh unit is listed
+pub fresh_listed : (s : State) (held : Held) (limits : Limits) (u : WorkUnit) → Contains (units_of s held limits) u → u.fresh ≡ true → u.listed ≡ true
+unfolding units_of_parts
+fresh_listed s held limits u h fresh = ⊎_elim
+    (λ k. let o = old_member s.parts held limits u k in absurd (let no : false ≡ true = ap (λ (x : WorkUnit). x.fresh) o.is ∙ fresh in cc))
+    (λ k. let n = new_member s.parts held limits u k in sym (ap (λ (x : WorkUnit). x.listed) n.is))
+    (Contains-append_cases (owed_units s.parts held limits) (new_units s.parts held limits) u h)

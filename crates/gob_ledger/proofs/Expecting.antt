@@ -7,7 +7,10 @@ use Rattle.gob_bytes.proofs.Tables.{same_name}
 use Rattle.gob_bytes.specs.Paths.{under}
 use Rattle.gob_bytes.specs.Tables.{at_name}
 use Rattle.gob_device.specs.Supply.{Held}
+use Rattle.gob_plan.specs.declared.plan.CommitPolicy.{CommitPolicy}
 use Rattle.gob_plan.specs.declared.plan.Plan.{Plan}
+use Rattle.gob_plan.specs.declared.units.Unit.{Unit as WorkUnit}
+use Rattle.gob_meaning.specs.Results.{Verdict}
 use Rattle.gob_meaning.specs.Job.{plan_of}
 use Rattle.gob_ledger.specs.Marks.{Marks, Span, Done}
 use Rattle.gob_ledger.specs.State.{State, marks_at, TiledState}
@@ -199,3 +202,13 @@ committed_expects job s pipeline plan archive name content all (d ∷ ds) tiled 
 pub expects : NextExpects
 unfolding next_state
 expects job s pipeline plan units verdicts policy archive name content tiled is = committed_expects job s pipeline plan archive name content (zip units verdicts) (allowed_units policy (zip units verdicts)) tiled is
+
+committed_has : (s : State) (pipeline : List ℕ) (all done : List Judged) (j : Judged) → Contains done j → HasDone (committed_or s pipeline all done) j.0.part (done_by (pipeline_index pipeline s) j)
+committed_has s pipeline all [] j h = none_in j h
+committed_has s pipeline all (d ∷ ds) j h = unit_finishes (pipeline_index pipeline s) (d ∷ ds) (fold_units add_unit (with_pipeline pipeline s) all) j h
+
+-- the range of a committed unit is done
+pub done_has : (s : State) (pipeline : List ℕ) (units : List WorkUnit) (verdicts : List Verdict) (policy : CommitPolicy) (j : Judged) → Contains (allowed_units policy (zip units verdicts)) j
+    → HasDone (next_state s pipeline units verdicts policy) j.0.part (done_by (pipeline_index pipeline s) j)
+unfolding next_state
+done_has s pipeline units verdicts policy j h = committed_has s pipeline (zip units verdicts) (allowed_units policy (zip units verdicts)) j h
