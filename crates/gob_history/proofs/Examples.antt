@@ -11,10 +11,10 @@ use Rattle.std.proofs.lemmas.Str.{IsUtf8-from_is_utf8}
 use Rattle.gob_bytes.specs.Digits.{offset, padded}
 use Rattle.gob_bytes.specs.Escapes.{escaped}
 use Rattle.gob_bytes.specs.Lines.{lines_from}
-use Rattle.gob_bytes.specs.Paths.{is_published, begins_with, staging, state_name, sequence_name, under}
+use Rattle.gob_bytes.specs.Paths.{is_published, begins_with, staging, state_name, under}
 use Rattle.gob_bytes.specs.Tables.{at_name}
 use Rattle.gob_bytes.proofs.Tables.{same_name}
-use Rattle.gob_device.specs.Disk.{Files, File, clean, contents_of, contents_at, no_files, put, Image, Rises}
+use Rattle.gob_device.specs.Disk.{File, clean, contents_of, contents_at, no_files, put, Image, Rises}
 use Rattle.gob_device.specs.Supply.{Held, given}
 use Rattle.gob_plan.specs.Tests.{test_holds}
 use Rattle.gob_plan.specs.declared.units.Counts.{Counts}
@@ -37,14 +37,13 @@ use Rattle.gob_ledger.specs.Expected.{IsMade, IsExpected, bytes_in}
 use Rattle.gob_ledger.specs.Spelling.{state_text, Proper, IsPipeline, IsSetting, is_key, ProperPart, SmallBranch}
 use Rattle.gob_ledger.specs.Turns.{own_pulls, turns_of, verdicts_of}
 use Rattle.gob_ledger.specs.Examples.{plain_state, two_lines, job, done}
-use Rattle.gob_recovery.specs.Settle.{without_staging, SettlesAs}
-use Rattle.gob_recovery.proofs.Images.{images_alike}
+use Rattle.gob_recovery.specs.Settle.{without_staging}
 use Rattle.gob_history.specs.Sound.{Sound, AllStandFor}
 use Rattle.gob_history.specs.Runs.{state_after, TrailOfRun}
 use Rattle.gob_history.specs.Rounds.{begins, goes_on, running}
 use Rattle.gob_recovery.proofs.Spelled.{to_one}
 use Rattle.gob_history.specs.Examples.{after_plain, HasTwoLines, PlainHistory}
-use Rattle.gob_history.proofs.Stands.{standing}
+use Rattle.gob_history.proofs.Stands.{standing, kept_all, settles_itself}
 
 abbrev the_marks : Marks
 the_marks = record { next = 4; finished = done 0 4 ∷ []; owed = [] }
@@ -246,17 +245,6 @@ unstaged name staged = cases (bytes_eq name the_file) refl
     cases : (b : Bool) → bytes_eq name the_file ≡ b → cond b (Some (clean (codes "x\ny\n"))) (put no_files (codes "j1/state") (Some (clean (state_text plain_state))) name) ≡ None
     cases true is = absurd (let no : false ≡ true = sym (ap (begins_with (staging (codes "j1"))) (same_name name the_file is)) ∙ staged in cc)
     cases false is = other (bytes_eq name (codes "j1/state")) refl
-
-kept_all : (m : Files) (job name : List ℕ) → (begins_with (staging job) name ≡ true → m name ≡ None) → m name ≡ without_staging job m name
-unfolding without_staging
-kept_all m job name none = elim (begins_with (staging job) name) as (λ b. begins_with (staging job) name ≡ b → m name ≡ cond b None (m name)) [
-  | true ↦ λ e. none e
-  | false ↦ λ e. refl
-] refl
-
--- a map with no sequence and no staging settles to itself
-settles_itself : (job : List ℕ) (m : Files) → m (sequence_name job) ≡ None → ((name : List ℕ) → begins_with (staging job) name ≡ true → m name ≡ None) → SettlesAs job m m
-settles_itself job m none clear = images_alike job m m (λ f e. absurd (let no : None ≡ Some f = sym none ∙ e in cc)) (inl (none, λ i name. kept_all m job name (clear name) i))
 
 nothing : (archive : Held) → AllStandFor (codes "j1") archive None no_files
 nothing archive = standing (codes "j1") archive None no_files no_files

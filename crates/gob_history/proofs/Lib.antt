@@ -5,3 +5,4 @@ pub mod Bytes
 pub mod Good
 pub mod Rules
 pub mod Left
+pub mod Along

@@ -1,13 +1,13 @@
 -- A steady map stands for its state in every image of what settles to it.
-use Rattle.std.proofs.Common.{◌≡◌, ◌↔◌, ℕ, true, List, refl, sym, ap, subst, ◌∙◌, Some, None, option_map}
+use Rattle.std.proofs.Common.{◌≡◌, ◌↔◌, inl, ℕ, true, false, cond, List, refl, sym, ap, subst, ◌∙◌, Some, None, option_map}
 use Rattle.std.specs.declared.option.Option.{Option}
-use Rattle.gob_bytes.specs.Paths.{is_published, state_name}
+use Rattle.gob_bytes.specs.Paths.{begins_with, staging, sequence_name, is_published, state_name}
 use Rattle.gob_device.specs.Disk.{Files, File, clean, dirty, contents_of, contents_at, FileImage}
 use Rattle.gob_device.specs.Supply.{Held}
 use Rattle.gob_ledger.specs.State.{State}
 use Rattle.gob_ledger.specs.Expected.{IsExpected}
-use Rattle.gob_recovery.specs.Settle.{SettlesAs}
-use Rattle.gob_recovery.proofs.Images.{image_at}
+use Rattle.gob_recovery.specs.Settle.{without_staging, SettlesAs}
+use Rattle.gob_recovery.proofs.Images.{image_at, images_alike}
 use Rattle.gob_history.specs.Sound.{Stores, SoundIn, AllStandFor, SteadyStands}
 
 abbrev pub Quiet : Option File → Type 0
@@ -49,3 +49,14 @@ standing job archive o settled m steady alike = λ i image.
       stores_alike job o settled x.0 (reads_alike (settled (state_name job)) (x.0 (state_name job)) steady.state (image_at settled x.0 x.2 (state_name job))) steady.stores,
       sound_alike job archive o settled x.0 same steady.sound,
     )
+
+pub kept_all : (m : Files) (job name : List ℕ) → (begins_with (staging job) name ≡ true → m name ≡ None) → m name ≡ without_staging job m name
+unfolding without_staging
+kept_all m job name none = elim (begins_with (staging job) name) as (λ b. begins_with (staging job) name ≡ b → m name ≡ cond b None (m name)) [
+  | true ↦ λ e. none e
+  | false ↦ λ e. refl
+] refl
+
+-- a map with no sequence and no staging settles to itself
+pub settles_itself : (job : List ℕ) (m : Files) → m (sequence_name job) ≡ None → ((name : List ℕ) → begins_with (staging job) name ≡ true → m name ≡ None) → SettlesAs job m m
+settles_itself job m none clear = images_alike job m m (λ f e. absurd (let no : None ≡ Some f = sym none ∙ e in cc)) (inl (none, λ i name. kept_all m job name (clear name) i))

@@ -90,7 +90,7 @@ abbrev pub one_more : File → File
 one_more (clean bytes) = clean bytes
 one_more (dirty kept loose) = clean (kept ++ (loose ++ 0 ∷ []))
 
-image_read : (m : Files) → Image m (over as_read m)
+pub image_read : (m : Files) → Image m (over as_read m)
 unfolding Image
 image_read m = λ name. one (m name)
   where

@@ -212,3 +212,43 @@ pub done_has : (s : State) (pipeline : List ℕ) (units : List WorkUnit) (verdic
     → HasDone (next_state s pipeline units verdicts policy) j.0.part (done_by (pipeline_index pipeline s) j)
 unfolding next_state
 done_has s pipeline units verdicts policy j h = committed_has s pipeline (zip units verdicts) (allowed_units policy (zip units verdicts)) j h
+
+committed_keeps : (job : List ℕ) (s : State) (pipeline : List ℕ) (archive : Held) (name content : List ℕ) (all done : List Judged) → TiledState s → IsExpected job s archive name content → IsExpected job (committed_or s pipeline all done) archive name content
+committed_keeps job s pipeline archive name content all [] tiled e = e
+committed_keeps job s pipeline archive name content all (d ∷ ds) tiled e =
+    let p = pipeline_index pipeline s in
+    let start = with_pipeline pipeline s in
+    let h = has_finishes p (d ∷ ds) (fold_units add_unit start all) e.part e.done
+    (has_adds all start e.part e.done (e.marks, ap (λ ps. at_name ps e.part) (with-parts pipeline s) ∙ e.of_part, e.of_marks)) in
+    let pipes = finishes-pipelines p (d ∷ ds) (fold_units add_unit start all) ∙ adds-pipelines all start in
+    record {
+      part = e.part;
+      marks = h.0;
+      of_part = h.1;
+      done = e.done;
+      of_marks = h.2;
+      pipeline = e.pipeline;
+      of_state = ap (λ ps. slice_get ps e.done.pipeline) pipes ∙ (pipeline_stays pipeline s e.done.pipeline (tiled.indexed e.part e.marks e.done e.of_part e.of_marks) ∙ e.of_state);
+      plan = e.plan;
+      of_pipeline = e.of_pipeline;
+      path = e.path;
+      made = e.made;
+      called = e.called;
+    }
+
+committed_done : (s : State) (pipeline : List ℕ) (all done : List Judged) (part : List ℕ) (d : Done) → HasDone s part d → HasDone (committed_or s pipeline all done) part d
+committed_done s pipeline all [] part d h = h
+committed_done s pipeline all (j ∷ js) part d h =
+    has_finishes (pipeline_index pipeline s) (j ∷ js) (fold_units add_unit (with_pipeline pipeline s) all) part d
+    (has_adds all (with_pipeline pipeline s) part d (h.0, ap (λ ps. at_name ps part) (with-parts pipeline s) ∙ h.1, h.2))
+
+-- what was expected still is after a run
+pub next_keeps : (job : List ℕ) (s : State) (pipeline : List ℕ) (units : List WorkUnit) (verdicts : List Verdict) (policy : CommitPolicy) (archive : Held) (name content : List ℕ)
+    → TiledState s → IsExpected job s archive name content → IsExpected job (next_state s pipeline units verdicts policy) archive name content
+unfolding next_state
+next_keeps job s pipeline units verdicts policy archive name content tiled e = committed_keeps job s pipeline archive name content (zip units verdicts) (allowed_units policy (zip units verdicts)) tiled e
+
+-- what was done still is
+pub next_done : (s : State) (pipeline : List ℕ) (units : List WorkUnit) (verdicts : List Verdict) (policy : CommitPolicy) (part : List ℕ) (d : Done) → HasDone s part d → HasDone (next_state s pipeline units verdicts policy) part d
+unfolding next_state
+next_done s pipeline units verdicts policy part d h = committed_done s pipeline (zip units verdicts) (allowed_units policy (zip units verdicts)) part d h
