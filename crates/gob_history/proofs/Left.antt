@@ -37,7 +37,7 @@ use Rattle.gob_ledger.proofs.Sums.{totals_stay}
 use Rattle.gob_ledger.specs.Turns.{verdicts_of}
 use Rattle.gob_history.specs.Sound.{Stores, PublishesExactly, SoundIn}
 use Rattle.gob_history.specs.Runs.{state_or_empty, run_units, run_verdicts, done_units, stored_where}
-use Rattle.gob_history.specs.Laws.{without_rules, TellsPlan, RunLeavesSound}
+use Rattle.gob_history.specs.Laws.{without_rules, TellsPlan, RunLeavesSound, RunLeavesSteady}
 use Rattle.gob_history.proofs.Bytes.{text_bytes}
 use Rattle.gob_history.proofs.Good.{verdicts_length, done_counts_are}
 use Rattle.gob_history.proofs.Rules.{same_fold, same_counts, made_with, made_without, few_branches}
@@ -245,3 +245,11 @@ left_sound job archive held settled n o failing tells agrees order stores sound 
                     (grows.0 e)),
               );
         }
+
+pub left_steady : RunLeavesSteady
+left_steady job archive held settled n o failing tells agrees order steady left clean = record {
+  stores = left.stored;
+  sound = left_sound job archive held settled n o failing tells agrees order steady.stores steady.sound left;
+  state = clean.state;
+  published = clean.published;
+}

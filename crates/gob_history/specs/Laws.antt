@@ -1,10 +1,11 @@
 -- What a run keeps, apart from crashes.
-use Rattle.std.specs.Prelude.{◌≡◌, ◌⊎◌, ℕ, List, [], ◌∷◌}
+use Rattle.std.specs.Prelude.{◌≡◌, ◌⊎◌, ℕ, true, List, [], ◌∷◌}
 use Rattle.std.specs.List.{Contains}
 use Rattle.std.specs.declared.option.Option.{Option}
 use Rattle.std.specs.declared.option.Option.TheVariants.{Some}
+use Rattle.gob_bytes.specs.Paths.{is_published, state_name}
 use Rattle.gob_bytes.specs.Tables.{names_of, Rising}
-use Rattle.gob_device.specs.Disk.{Files}
+use Rattle.gob_device.specs.Disk.{Files, File, clean}
 use Rattle.gob_device.specs.Supply.{Held}
 use Rattle.gob_plan.specs.declared.plan.Plan.{Plan}
 use Rattle.gob_meaning.specs.Job.{Job, plan_of}
@@ -12,7 +13,7 @@ use Rattle.gob_ledger.specs.Marks.{Marks, Done}
 use Rattle.gob_ledger.specs.State.{State, marks_at}
 use Rattle.gob_ledger.specs.Archive.{Agrees}
 use Rattle.gob_ledger.specs.Expected.{IsExpected}
-use Rattle.gob_history.specs.Sound.{Stores, SoundIn, AllStandFor}
+use Rattle.gob_history.specs.Sound.{Stores, SoundIn, AllStandFor, Steady}
 use Rattle.gob_history.specs.Runs.{RunLeft, state_after}
 use Rattle.gob_history.specs.Rounds.{History}
 
@@ -52,3 +53,14 @@ StandAlong job (e ∷ d ∷ es) (p ∷ o ∷ os) = AllStandFor job e.0 p e.1 × 
 -- in every history each map stands for a state, wherever its run was stopped
 abbrev pub HistoryStands : Type 0
 HistoryStands = (job : List ℕ) (h : List (Held × Files)) → History job h → (os : List (Option State)) × StandAlong job h os
+
+-- the state file and the published files of a map can't be lost in part
+pub record CountsClean (job : List ℕ) (m : Files) : Type 0 where
+  pub state : (f : File) → m (state_name job) ≡ Some f → (bytes : List ℕ) × (f ≡ clean bytes)
+  pub published : (name : List ℕ) (f : File) → is_published job name ≡ true → m name ≡ Some f → (bytes : List ℕ) × (f ≡ clean bytes)
+
+-- where the files that count are clean, the map that a run left is steady
+abbrev pub RunLeavesSteady : Type 0
+RunLeavesSteady = (job : Job) (archive held : Held) (settled n : Files) (o : Option State) (failing : List ℕ) → TellsPlan job → Agrees archive held → Rising (names_of held)
+    → Steady job.name archive o settled → RunLeft job held settled o failing n → CountsClean job.name n
+    → Steady job.name archive (state_after job held failing o) n

@@ -2,7 +2,7 @@
 #![tactic(auto)]
 
 ghost use Rattle.gob_history.specs.Examples.{PlainHistory};
-ghost use Rattle.gob_history.specs.Laws.{HistoryStands, RunLeavesSound};
+ghost use Rattle.gob_history.specs.Laws.{HistoryStands, RunLeavesSound, RunLeavesSteady};
 ghost use Rattle.gob_history.specs.Sound.{StandingIsSteady, SteadyStands};
 
 /// Whatever settles to a steady map stands for that map's state, whatever a crash leaves of it.
@@ -23,6 +23,11 @@ pub fn a_plain_history()
 /// A run from a sound map leaves one that is sound for the state after it.
 pub fn a_run_leaves_a_sound_map()
     ensures { RunLeavesSound }
+{}
+
+/// Where the files that count are clean, a run from a steady map leaves a steady one.
+pub fn a_run_leaves_a_steady_map()
+    ensures { RunLeavesSteady }
 {}
 
 /// Over runs of any number, each stopped anywhere: every map stands for a state, and what is done stays done with the same files.

@@ -1,3 +1,4 @@
 pub mod Again
 pub mod Images
 pub mod Spelled
+pub mod Settled

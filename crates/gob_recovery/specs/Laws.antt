@@ -1,11 +1,11 @@
 -- The laws of settling.
-use Rattle.std.specs.Prelude.{◌≡◌, ℕ, true, List, take}
+use Rattle.std.specs.Prelude.{◌≡◌, ℕ, true, false, List, take}
 use Rattle.std.specs.declared.option.Option.TheVariants.{Some}
 use Rattle.std.specs.List.{list_all}
-use Rattle.gob_bytes.specs.Paths.{sequence_name}
+use Rattle.gob_bytes.specs.Paths.{begins_with, staging, sequence_name}
 use Rattle.gob_device.specs.Disk.{Files, File, clean}
 use Rattle.gob_recovery.specs.Sequence.{Step, WellFormed, sequence_text}
-use Rattle.gob_recovery.specs.Settle.{do_steps, can_do, Open, finished, Settles, SettlesAs}
+use Rattle.gob_recovery.specs.Settle.{do_steps, can_do, Open, finished, Settles, IsSettled, SettlesAs}
 
 -- different sequences have different texts
 abbrev pub OneSpelling : Type 0
@@ -27,3 +27,12 @@ NoTornSequence job m = (f : File) → m (sequence_name job) ≡ Some f → (byte
 -- each image of a map settles to an image of what the map settles to
 abbrev pub ImagesSettleAlike : Type 0
 ImagesSettleAlike = (job : List ℕ) (m settled : Files) → NoTornSequence job m → Settles job m settled → SettlesAs job settled m
+
+-- what a map settles to is settled
+abbrev pub SettlesToSettled : Type 0
+SettlesToSettled = (job : List ℕ) (m settled : Files) → Settles job m settled → IsSettled job settled
+
+-- a settled map settles to itself, and so, in each image, does whatever differs from it in staged files alone
+abbrev pub StagingIsFree : Type 0
+StagingIsFree = (job : List ℕ) (settled m : Files) → IsSettled job settled → ((name : List ℕ) → begins_with (staging job) name ≡ false → m name ≡ settled name)
+    → Settles job m settled × SettlesAs job settled m

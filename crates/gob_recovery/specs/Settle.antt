@@ -44,6 +44,11 @@ abbrev pub Settles : List ℕ → Files → Files → Type 0
 Settles job m settled = ((m (sequence_name job) ≡ None) × (settled ≡ without_staging job m))
     ⊎ ((steps : List Step) × Open job m steps × (list_all (can_do m) steps ≡ true) × (settled ≡ finished job steps m))
 
+-- there is no open sequence, and nothing is staged
+pub record IsSettled (job : List ℕ) (m : Files) : Type 0 where
+  pub closed : m (sequence_name job) ≡ None
+  pub unstaged : (name : List ℕ) → begins_with (staging job) name ≡ true → m name ≡ None
+
 -- settling the map isn't defined, and this name is the one to blame: the sequence, or the first source that is lost
 pub data IsDamaged (job : List ℕ) (m : Files) : List ℕ → Type 0 where
   sequence : (file : File) → m (sequence_name job) ≡ Some file → ((steps : List Step) → Reads job (contents_of file) steps → ⊥) → IsDamaged job m (sequence_name job)

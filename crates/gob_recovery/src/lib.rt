@@ -1,7 +1,7 @@
 //! Commit sequences and what settling makes of a map of files: definitions and their laws. No function works here.
 #![tactic(auto)]
 
-ghost use Rattle.gob_recovery.specs.Laws.{ImagesSettleAlike, OneSpelling, SettlesToOne, SettlingCanBeRepeated};
+ghost use Rattle.gob_recovery.specs.Laws.{ImagesSettleAlike, OneSpelling, SettlesToOne, SettlesToSettled, SettlingCanBeRepeated, StagingIsFree};
 
 /// A sequence's text determines its steps.
 pub fn one_spelling_a_sequence()
@@ -21,4 +21,14 @@ pub fn settling_can_be_repeated()
 /// Whatever a crash leaves of a map settles to what a crash might leave of the settled map.
 pub fn images_settle_alike()
     ensures { ImagesSettleAlike }
+{}
+
+/// What a map settles to has no open sequence and nothing staged.
+pub fn settling_settles()
+    ensures { SettlesToSettled }
+{}
+
+/// Staged files change nothing of what a map without a sequence settles to, whatever a crash leaves of them.
+pub fn staging_is_free()
+    ensures { StagingIsFree }
 {}
