@@ -8,3 +8,4 @@ pub mod Grown
 pub mod Cutting
 pub mod Sums
 pub mod Within
+pub mod Properly

@@ -129,12 +129,12 @@ added_one s j us tiled adds = elim j.0.fresh as (λ b. j.0.fresh ≡ b → Added
 ] refl
 
 -- what all added units leave
-record AllAdded (s t : State) (us : List WorkUnit) : Type 0 where
-  tiled : TiledState t
-  keeps : (k : WorkUnit) → IsOwed s.parts k → IsOwed t.parts k
-  owes : (k : WorkUnit) → Contains us k → k.fresh ≡ true → IsOwed t.parts k
+pub record AllAdded (s t : State) (us : List WorkUnit) : Type 0 where
+  pub tiled : TiledState t
+  pub keeps : (k : WorkUnit) → IsOwed s.parts k → IsOwed t.parts k
+  pub owes : (k : WorkUnit) → Contains us k → k.fresh ≡ true → IsOwed t.parts k
 
-all_added : (js : List Judged) (s : State) → TiledState s → Adds s (units_in js) → AllAdded s (fold_units add_unit s js) (units_in js)
+pub all_added : (js : List Judged) (s : State) → TiledState s → Adds s (units_in js) → AllAdded s (fold_units add_unit s js) (units_in js)
 all_added [] s tiled adds = record { tiled = tiled; keeps = λ k o. o; owes = λ k h e. none_in k h }
 all_added (j ∷ js) s tiled adds =
     let one = added_one s j (units_in js) tiled adds in
@@ -157,7 +157,7 @@ finish_tiled p s j tiled below o =
     (λ d h. ⊎_elim (λ e. subst (λ (x : Done). x.pipeline < length s.pipelines) e below) (λ k. indexed_or s j.0.part d tiled k) (in_insert (record { span = span_of j.0; pipeline = p }) (marks_or s j.0.part).finished d h)) in
     record { tiled = t.tiled; indexed = t.indexed }
 
-finish_keeps : (p : ℕ) (s : State) (j : Judged) (k : WorkUnit) → same_unit j.0 k ≡ false → IsOwed s.parts k → IsOwed (finish_unit p s j).parts k
+pub finish_keeps : (p : ℕ) (s : State) (j : Judged) (k : WorkUnit) → same_unit j.0 k ≡ false → IsOwed s.parts k → IsOwed (finish_unit p s j).parts k
 finish_keeps p s j k apart o = cases (bytes_eq k.part j.0.part) refl
   where
     cases : (b : Bool) → bytes_eq k.part j.0.part ≡ b → IsOwed (finish_unit p s j).parts k
@@ -192,7 +192,7 @@ all_filter p P (j ∷ js) all = elim (p j) as (λ b. AllByRecursion P (units_in 
   | false ↦ all_filter p P js all.1
 ]
 
-distinct_filter : (p : Judged → Bool) (js : List Judged) → IsDistinct same_unit (units_in js) → IsDistinct same_unit (units_in (filter p js))
+pub distinct_filter : (p : Judged → Bool) (js : List Judged) → IsDistinct same_unit (units_in js) → IsDistinct same_unit (units_in (filter p js))
 unfolding IsDistinct
 distinct_filter p [] apart = tt
 distinct_filter p (j ∷ js) apart = elim (p j) as (λ b. IsDistinct same_unit (units_in (cond b (j ∷ filter p js) (filter p js)))) [
@@ -210,7 +210,7 @@ some_there [] k below = absurd (omega (arith, below))
 some_there (x ∷ xs) zero below = (x, refl)
 some_there (x ∷ xs) (suc k) below = some_there xs k (omega (arith, below))
 
-with_tiled : (p : List ℕ) (s : State) → TiledState s → TiledState (with_pipeline p s)
+pub with_tiled : (p : List ℕ) (s : State) → TiledState s → TiledState (with_pipeline p s)
 with_tiled p s tiled = record {
   tiled = λ q m e. tiled.tiled q m (ap (λ t. at_name t q) (sym (with-parts p s)) ∙ e);
   indexed = λ q m d e h.

@@ -1,12 +1,14 @@
 -- The laws of the ledger.
-use Rattle.std.specs.Prelude.{◌≡◌, ◌⊎◌, ◌↔◌, ℕ, true, List, length}
+use Rattle.std.specs.Prelude.{◌≡◌, ◌≢◌, ◌⊎◌, ◌↔◌, ℕ, ◌≤◌, true, List, [], ◌∷◌, length}
 use Rattle.std.specs.declared.option.Option.TheVariants.{Some}
+use Rattle.std.specs.Str.{IsUtf8}
 use Rattle.std.specs.List.{zip, Contains}
 use Rattle.gob_bytes.specs.Tables.{at_name, names_of, Rising}
 use Rattle.gob_device.specs.Supply.{Held}
 use Rattle.gob_plan.specs.declared.plan.CommitPolicy.{CommitPolicy}
 use Rattle.gob_plan.specs.declared.plan.Limits.{Limits}
 use Rattle.gob_plan.specs.declared.plan.Plan.{Plan}
+use Rattle.gob_plan.specs.declared.units.Counts.{Counts}
 use Rattle.gob_plan.specs.declared.units.Unit.{Unit as WorkUnit}
 use Rattle.gob_meaning.specs.Results.{Verdict}
 use Rattle.gob_meaning.specs.Job.{plan_of}
@@ -15,6 +17,7 @@ use Rattle.gob_ledger.specs.Units.{UnitsFit, span_of, units_of}
 use Rattle.gob_ledger.specs.Next.{Judged, allowed_units, counts_in, next_state}
 use Rattle.gob_ledger.specs.Archive.{Agrees, Grows, LiesOnLines, IsWithin}
 use Rattle.gob_ledger.specs.Expected.{IsExpected, IsPublished}
+use Rattle.gob_ledger.specs.Spelling.{Small, SmallCounts, Proper}
 use Rattle.gob_ledger.specs.Totals.{SameCounts, counted_in, span_counts}
 
 -- a state that is tiled stays so after a run over units that fit it
@@ -73,3 +76,21 @@ abbrev pub NextWithin : Type 0
 NextWithin = (s : State) (pipeline : List ℕ) (units : List WorkUnit) (verdicts : List Verdict) (policy : CommitPolicy) (archive : Held) → length verdicts ≡ length units
     → UnitsFit s.parts units → IsWithin archive s → ((u : WorkUnit) → Contains units u → u.fresh ≡ true → Lies archive u)
     → IsWithin archive (next_state s pipeline units verdicts policy)
+
+-- a unit that a state can keep: its partition has a name, and its end is small
+pub record ProperUnit (u : WorkUnit) : Type 0 where
+  pub named : u.part ≢ []
+  pub text : IsUtf8 u.part
+  pub small : Small u.hi
+
+-- counts that a state can keep
+pub record ProperCounts (c : Counts) : Type 0 where
+  pub small : SmallCounts c
+  pub few : length c.branches ≤ 8
+
+-- a state that has a spelling has one after a run of its own pipeline
+abbrev pub NextIsProper : Type 0
+NextIsProper = (s : State) (pipeline : List ℕ) (units : List WorkUnit) (verdicts : List Verdict) (policy : CommitPolicy) → length verdicts ≡ length units
+    → Proper s → s.pipelines ≡ pipeline ∷ [] → UnitsFit s.parts units → ((u : WorkUnit) → Contains units u → ProperUnit u)
+    → ((j : Judged) (c : Counts) → Contains (allowed_units policy (zip units verdicts)) j → counts_in j.1 ≡ Some c → ProperCounts c)
+    → Proper (next_state s pipeline units verdicts policy)

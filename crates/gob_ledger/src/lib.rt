@@ -2,7 +2,7 @@
 #![tactic(auto)]
 
 ghost use Rattle.gob_ledger.specs.Examples.{WorkedExamples};
-ghost use Rattle.gob_ledger.specs.Laws.{GrownArchive, NextExpects, NextInOrder, NextTiles, NextTotals, NextWithin, UnitsFitState, UnitsLieOnLines};
+ghost use Rattle.gob_ledger.specs.Laws.{GrownArchive, NextExpects, NextInOrder, NextIsProper, NextTiles, NextTotals, NextWithin, UnitsFitState, UnitsLieOnLines};
 
 /// What the definitions make of small partitions, by computing.
 pub fn worked_examples()
@@ -47,4 +47,9 @@ pub fn next_state_totals()
 /// Ranges that lie in an archive on whole lines do so after a run whose new units lie in it.
 pub fn next_state_lies_within()
     ensures { NextWithin }
+{}
+
+/// A state that has a spelling has one after a run of its own pipeline.
+pub fn next_state_is_proper()
+    ensures { NextIsProper }
 {}
