@@ -5,7 +5,7 @@ use Rattle.std.specs.List.{list_all}
 use Rattle.gob_bytes.specs.Paths.{begins_with, staging, sequence_name}
 use Rattle.gob_device.specs.Disk.{Files, File, clean}
 use Rattle.gob_recovery.specs.Sequence.{Step, WellFormed, sequence_text}
-use Rattle.gob_recovery.specs.Settle.{do_steps, can_do, Open, finished, Settles, IsSettled, SettlesAs}
+use Rattle.gob_recovery.specs.Settle.{do_steps, can_do, Open, finished, Settles, IsSettled, IsDamaged, SettlesAs}
 
 -- different sequences have different texts
 abbrev pub OneSpelling : Type 0
@@ -36,3 +36,11 @@ SettlesToSettled = (job : List ℕ) (m settled : Files) → Settles job m settle
 abbrev pub StagingIsFree : Type 0
 StagingIsFree = (job : List ℕ) (settled m : Files) → IsSettled job settled → ((name : List ℕ) → begins_with (staging job) name ≡ false → m name ≡ settled name)
     → Settles job m settled × SettlesAs job settled m
+
+-- a damaged map has one name to blame, and doesn't settle
+pub record OneDamage (job : List ℕ) (m : Files) (name : List ℕ) : Type 0 where
+  pub unsettled : (settled : Files) → Settles job m settled → ⊥
+  pub blamed : (other : List ℕ) → IsDamaged job m other → other ≡ name
+
+abbrev pub DamageIsOne : Type 0
+DamageIsOne = (job : List ℕ) (m : Files) (name : List ℕ) → IsDamaged job m name → OneDamage job m name

@@ -1,7 +1,7 @@
 //! Commit sequences and what settling makes of a map of files: definitions and their laws. No function works here.
 #![tactic(auto)]
 
-ghost use Rattle.gob_recovery.specs.Laws.{ImagesSettleAlike, OneSpelling, SettlesToOne, SettlesToSettled, SettlingCanBeRepeated, StagingIsFree};
+ghost use Rattle.gob_recovery.specs.Laws.{DamageIsOne, ImagesSettleAlike, OneSpelling, SettlesToOne, SettlesToSettled, SettlingCanBeRepeated, StagingIsFree};
 
 /// A sequence's text determines its steps.
 pub fn one_spelling_a_sequence()
@@ -31,4 +31,9 @@ pub fn settling_settles()
 /// Staged files change nothing of what a map without a sequence settles to, whatever a crash leaves of them.
 pub fn staging_is_free()
     ensures { StagingIsFree }
+{}
+
+/// Where settling isn't defined there is exactly one name to blame.
+pub fn damage_is_one()
+    ensures { DamageIsOne }
 {}
