@@ -1,5 +1,5 @@
 -- The worked example: one plain run, from an empty volume.
-use Rattle.std.proofs.Common.{◌≡◌, ◌≢◌, inl, inr, ℕ, zero, suc, ◌<◌, Bool, true, false, cond, ◌&&◌, nat_eq, nat_lt, List, [], ◌∷◌, ◌++◌, take, drop, option_map, unwrap_or, refl, sym, ap, subst, ◌∙◌, Some, None, arith, lit<, codes, append-nil}
+use Rattle.std.proofs.Common.{⊎_elim, ◌≡◌, ◌≢◌, inl, inr, ℕ, zero, suc, ◌<◌, Bool, true, false, cond, ◌&&◌, nat_eq, nat_lt, List, [], ◌∷◌, ◌++◌, take, drop, option_map, unwrap_or, refl, sym, ap, subst, ◌∙◌, Some, None, arith, lit<, codes, append-nil}
 use Rattle.std.specs.declared.option.Option.{Option}
 use Rattle.std.specs.Fmt.{digits}
 use Rattle.std.specs.List.{Contains, All, list_all, slice_get}
@@ -25,21 +25,22 @@ use Rattle.gob_meaning.specs.Items.{Target, out, err, bad, branch_items, line_ma
 use Rattle.gob_meaning.specs.Job.{plan_of, plain_plan, plain_pipeline}
 use Rattle.gob_meaning.specs.Names.{target_name}
 use Rattle.gob_meaning.specs.Policies.{ruling}
-use Rattle.gob_meaning.specs.Results.{warnings_of, verdict_of}
+use Rattle.gob_meaning.specs.Results.{good, warnings_of, verdict_of}
 use Rattle.gob_ledger.specs.Marks.{Marks, Done, Tiled, times_covered}
 use Rattle.gob_meaning.specs.Sums.{sum_of}
 use Rattle.gob_ledger.specs.State.{State, marks_at, no_counts, TiledState}
 use Rattle.gob_ledger.specs.Archive.{LiesOnLines, LiesIn}
 use Rattle.gob_ledger.specs.Totals.{counted_in, SameCounts}
-use Rattle.gob_ledger.specs.Units.{units_of_parts}
-use Rattle.gob_ledger.specs.Next.{next_state}
-use Rattle.gob_ledger.specs.Expected.{IsMade, IsExpected, bytes_in}
+use Rattle.gob_ledger.specs.Units.{span_of, units_of_parts}
+use Rattle.gob_ledger.specs.Next.{Judged, next_state}
+use Rattle.gob_ledger.specs.Expected.{IsMade, IsExpected, IsPublished, bytes_in}
 use Rattle.gob_ledger.specs.Spelling.{state_text, Proper, IsPipeline, IsSetting, is_key, ProperPart, SmallBranch}
 use Rattle.gob_ledger.specs.Turns.{own_pulls, turns_of, verdicts_of}
-use Rattle.gob_ledger.specs.Examples.{plain_state, two_lines, job, done}
+use Rattle.gob_ledger.specs.Examples.{plain_state, two_lines, job, done, fresh, lines_written}
 use Rattle.gob_recovery.specs.Settle.{without_staging}
-use Rattle.gob_history.specs.Sound.{Sound, AllStandFor}
-use Rattle.gob_history.specs.Runs.{state_after, TrailOfRun}
+use Rattle.gob_history.specs.Sound.{Stores, Sound, AllStandFor}
+use Rattle.gob_history.specs.Runs.{done_units, state_after, RunLeft, TrailOfRun}
+use Rattle.gob_history.specs.Laws.{TellsPlan}
 use Rattle.gob_history.specs.Rounds.{begins, goes_on, running}
 use Rattle.gob_recovery.proofs.Spelled.{to_one}
 use Rattle.gob_history.specs.Examples.{after_plain, HasTwoLines, PlainHistory}
@@ -265,6 +266,67 @@ state_left : state_after job two_lines [] None ≡ Some plain_state
 unfolding digits escaped is_utf8 chars lib.Utf8.encode lines_from given test_holds unit_fold counts_of stop_of picks place_of decoded encoded branch_items line_made ruling warnings_of verdict_of sum_of units_of_parts next_state own_pulls turns_of verdicts_of
 state_left = refl
 
+the_unit : Judged
+the_unit = (fresh (codes "a.log") 0 4, good (lines_written 2) [])
+
+units_done : done_units job two_lines [] None ≡ the_unit ∷ []
+unfolding the_unit digits escaped is_utf8 chars lib.Utf8.encode lines_from given test_holds unit_fold counts_of stop_of picks place_of decoded encoded branch_items line_made ruling warnings_of verdict_of sum_of units_of_parts own_pulls turns_of verdicts_of
+units_done = refl
+
+tells_plan : TellsPlan job
+unfolding plan_of
+tells_plan = refl
+
+publishes_file : IsPublished (codes "j1") plain_plan two_lines (done_units job two_lines [] None) the_file (codes "x\ny\n")
+unfolding the_unit
+publishes_file = record {
+  unit = the_unit;
+  of_units = subst (λ js. Contains js the_unit) (sym units_done) (0, lit< tt, refl);
+  path = codes "out/0/a.log@00000000000000000000-00000000000000000004.txt";
+  made = subst (λ b. IsMade plain_plan (codes "a.log") (record { lo = 0; hi = 4 }) b (codes "out/0/a.log@00000000000000000000-00000000000000000004.txt") (codes "x\ny\n")) (sym (bytes_are two_lines refl)) made_file;
+  called = refl;
+}
+
+published_once : (name content : List ℕ) → IsPublished (codes "j1") plain_plan two_lines (done_units job two_lines [] None) name content → (name ≡ the_file) × (content ≡ codes "x\ny\n")
+unfolding the_unit
+published_once name content u =
+    let one : the_unit ≡ u.unit = only (subst (λ js. Contains js u.unit) units_done u.of_units) in
+    let made : IsMade plain_plan (codes "a.log") (record { lo = 0; hi = 4 }) (bytes_in two_lines (codes "a.log") (record { lo = 0; hi = 4 })) u.path content =
+    subst (λ (j : Judged). IsMade plain_plan j.0.part (span_of j.0) (bytes_in two_lines j.0.part (span_of j.0)) u.path content) (sym one) u.made in
+    let read : IsMade plain_plan (codes "a.log") (record { lo = 0; hi = 4 }) (codes "x\ny\n") u.path content =
+    subst (λ b. IsMade plain_plan (codes "a.log") (record { lo = 0; hi = 4 }) b u.path content) (bytes_are two_lines refl) made in
+    let is = only_made read.target content read.sends read.some in
+    (u.called ∙ named_file read.target u.path is.0 read.called, is.1)
+  where
+    only : {j : Judged} → Contains (the_unit ∷ []) j → the_unit ≡ j
+    only (zero, below, is) = is
+    only (suc k, below, is) = absurd (omega (arith, below))
+
+others_as_before : (name : List ℕ) → is_published (codes "j1") name ≡ false → name ≢ state_name (codes "j1") → after_plain name ≡ None
+others_as_before name private state = cases (bytes_eq name the_file) refl
+  where
+    other : (b : Bool) → bytes_eq name (codes "j1/state") ≡ b → cond b (Some (clean (state_text plain_state))) None ≡ None
+    other true is = absurd (state (same_name name (codes "j1/state") is))
+    other false is = refl
+
+    cases : (b : Bool) → bytes_eq name the_file ≡ b → cond b (Some (clean (codes "x\ny\n"))) (put no_files (codes "j1/state") (Some (clean (state_text plain_state))) name) ≡ None
+    cases true is = absurd (let bad : true ≡ false = sym (ap (is_published (codes "j1")) (same_name name the_file is)) ∙ private in cc)
+    cases false is = other (bytes_eq name (codes "j1/state")) refl
+
+run_left : RunLeft job two_lines no_files None [] after_plain
+run_left = record {
+  stored = subst (Stores (codes "j1") after_plain) (sym state_left) (refl, proper);
+  published = λ name content p. (
+    λ e.
+        let f = file_of (after_plain name) content e in
+        let is = published_is name f.0 p f.1 in
+        inl (subst (λ c. IsPublished (codes "j1") plain_plan two_lines (done_units job two_lines [] None) name c) (ap contents_of is.1 ∙ f.2)
+        (subst (λ n. IsPublished (codes "j1") plain_plan two_lines (done_units job two_lines [] None) n (codes "x\ny\n")) (sym is.0) publishes_file)),
+    λ e. ⊎_elim (λ u. let is = published_once name content u in ap (contents_at after_plain) is.0 ∙ ap (λ c. Some c) (sym is.1)) (λ x. absurd (let bad : None ≡ Some content = x.0 in cc)) e,
+  );
+  others = others_as_before;
+}
+
 -- a map that stands for a state has a file of it
 none_stored : (archive : Held) (s : State) → AllStandFor (codes "j1") archive (Some s) no_files → ⊥
 unfolding AllStandFor Image without_staging
@@ -288,6 +350,8 @@ pub example : PlainHistory
 example = record {
   nothing_stands = nothing;
   run_stands = run;
+  tells = tells_plan;
+  left = run_left;
   trail = trail_is;
   history = goes_on two_lines two_lines no_files after_plain [] (begins two_lines no_files (λ name e. refl)) (λ part bytes e. ([], e ∙ ap (λ b. Some b) (sym (append-nil bytes))))
       (record { added = after_plain ∷ []; round = running job refl two_lines (λ part bytes e. e) [] trail_is; left = after_plain; how = inr refl; same = λ name e. refl });

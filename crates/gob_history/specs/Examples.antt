@@ -7,8 +7,9 @@ use Rattle.gob_device.specs.Supply.{Held}
 use Rattle.gob_ledger.specs.Spelling.{state_text}
 use Rattle.gob_ledger.specs.Examples.{plain_state, two_lines, job}
 use Rattle.gob_history.specs.Sound.{AllStandFor}
-use Rattle.gob_history.specs.Runs.{TrailOfRun}
+use Rattle.gob_history.specs.Runs.{RunLeft, TrailOfRun}
 use Rattle.gob_history.specs.Rounds.{History}
+use Rattle.gob_history.specs.Laws.{TellsPlan}
 
 -- the file of the state, and the one published file
 abbrev pub after_plain : Files
@@ -22,5 +23,7 @@ HasTwoLines archive = at_name archive (codes "a.log") ≡ Some (codes "x\ny\n")
 pub record PlainHistory : Type 0 where
   pub nothing_stands : (archive : Held) → AllStandFor (codes "j1") archive None no_files
   pub run_stands : (archive : Held) → HasTwoLines archive → AllStandFor (codes "j1") archive (Some plain_state) after_plain
+  pub tells : TellsPlan job
+  pub left : RunLeft job two_lines no_files None [] after_plain
   pub trail : TrailOfRun job two_lines [] no_files (after_plain ∷ [])
   pub history : History (codes "j1") ((two_lines, after_plain) ∷ (two_lines, no_files) ∷ [])
