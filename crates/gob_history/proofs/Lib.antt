@@ -6,3 +6,4 @@ pub mod Good
 pub mod Rules
 pub mod Left
 pub mod Along
+pub mod Rising

@@ -5,7 +5,7 @@ use Rattle.std.specs.declared.option.Option.{Option}
 use Rattle.std.specs.declared.option.Option.TheVariants.{Some}
 use Rattle.gob_bytes.specs.Paths.{is_published, state_name}
 use Rattle.gob_bytes.specs.Tables.{names_of, Rising}
-use Rattle.gob_device.specs.Disk.{Files, File, clean}
+use Rattle.gob_device.specs.Disk.{Files, File, clean, Rises}
 use Rattle.gob_device.specs.Supply.{Held}
 use Rattle.gob_plan.specs.declared.plan.Plan.{Plan}
 use Rattle.gob_meaning.specs.Job.{Job, plan_of}
@@ -13,6 +13,7 @@ use Rattle.gob_ledger.specs.Marks.{Marks, Done}
 use Rattle.gob_ledger.specs.State.{State, marks_at}
 use Rattle.gob_ledger.specs.Archive.{Agrees}
 use Rattle.gob_ledger.specs.Expected.{IsExpected}
+use Rattle.gob_recovery.specs.Settle.{SettlesAs}
 use Rattle.gob_history.specs.Sound.{Stores, SoundIn, AllStandFor, Steady}
 use Rattle.gob_history.specs.Runs.{RunLeft, state_after}
 use Rattle.gob_history.specs.Rounds.{History}
@@ -64,3 +65,8 @@ abbrev pub RunLeavesSteady : Type 0
 RunLeavesSteady = (job : Job) (archive held : Held) (settled n : Files) (o : Option State) (failing : List ℕ) → TellsPlan job → Agrees archive held → Rising (names_of held)
     → Steady job.name archive o settled → RunLeft job held settled o failing n → CountsClean job.name n
     → Steady job.name archive (state_after job held failing o) n
+
+-- maps that settle first as one steady map and then as another go from its state to the other's
+abbrev pub RisesStand : Type 0
+RisesStand = (job : List ℕ) (archive : Held) (o p : Option State) (first second : Files) (maps : List Files) → Steady job archive o first → Steady job archive p second
+    → Rises (SettlesAs job) (first ∷ second ∷ []) maps → Rises (AllStandFor job archive) (o ∷ p ∷ []) maps

@@ -2,12 +2,17 @@
 #![tactic(auto)]
 
 ghost use Rattle.gob_history.specs.Examples.{PlainHistory};
-ghost use Rattle.gob_history.specs.Laws.{HistoryStands, RunLeavesSound, RunLeavesSteady};
+ghost use Rattle.gob_history.specs.Laws.{HistoryStands, RisesStand, RunLeavesSound, RunLeavesSteady};
 ghost use Rattle.gob_history.specs.Sound.{StandingIsSteady, SteadyStands};
 
 /// Whatever settles to a steady map stands for that map's state, whatever a crash leaves of it.
 pub fn steady_stands()
     ensures { SteadyStands }
+{}
+
+/// Maps that settle as one steady map and then as another go from its state to the other's.
+pub fn rising_maps_stand()
+    ensures { RisesStand }
 {}
 
 /// What stands for a state settles to a steady map that stores it.
