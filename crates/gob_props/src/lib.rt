@@ -1,0 +1,6 @@
+//! The text of a job file: keys and values, one to a line, in the form of Java's properties files.
+#![tactic(auto)]
+
+mod fault;
+
+pub use fault::PropsFault;
