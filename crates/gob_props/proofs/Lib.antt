@@ -1,1 +1,4 @@
 pub mod Examples
+pub mod NaturalLemmas
+pub mod LogicalLemmas
+pub mod EscapeLemmas

@@ -1,1 +1,2 @@
 pub mod Properties
+pub mod Steps

@@ -1,6 +1,6 @@
 -- What a properties text says: first its natural lines, then its logical lines, then each one's key and value, and then
 -- the escapes in these. A text is a list of characters.
-use Rattle.std.specs.Prelude.{ℕ, zero, suc, ◌+◌, ◌-◌, ◌*◌, ◌%◌, Bool, true, false, cond, ◌&&◌, ◌||◌, nat_eq, nat_le, List, [], ◌∷◌, ◌++◌, length, take, drop, fold, map, encode_utf8_all}
+use Rattle.std.specs.Prelude.{ℕ, zero, suc, ◌+◌, ◌-◌, ◌*◌, ◌%◌, Bool, true, false, cond, ◌&&◌, ◌||◌, not, nat_eq, nat_le, List, [], ◌∷◌, ◌++◌, length, take, drop, fold, map, encode_utf8_all}
 use Rattle.std.specs.declared.option.Option.{Option}
 use Rattle.std.specs.declared.option.Option.TheVariants.{None, Some}
 use Rattle.std.specs.declared.result.Result.{Result}
@@ -28,6 +28,11 @@ natural_from begun (c ∷ d ∷ cs) = cond (nat_eq c 13 && nat_eq d 10) (begun �
 
 abbrev pub natural_lines : List ℕ → List (List ℕ)
 natural_lines text = natural_from [] text
+
+-- the natural lines of what is left of a text, if anything is
+abbrev pub lines_left : Option (List ℕ) → List (List ℕ)
+lines_left None = []
+lines_left (Some text) = natural_lines text
 
 -- ---- logical lines
 
@@ -86,11 +91,14 @@ logical_lines text = logical_from None 1 (natural_lines text)
 abbrev pub is_mark : ℕ → Bool
 is_mark c = nat_eq c 61 || nat_eq c 58
 
--- how long the key is: it ends at the first mark or white space that no backslash escapes
-abbrev pub key_length : List ℕ → ℕ
-key_length [] = 0
-key_length (c ∷ []) = cond (is_mark c || is_blank c) 0 1
-key_length (c ∷ d ∷ cs) = cond (is_mark c || is_blank c) 0 (cond (is_backslash c) (2 + key_length cs) (1 + key_length (d ∷ cs)))
+abbrev pub is_separator : ℕ → Bool
+is_separator c = is_mark c || is_blank c
+
+-- how long the key is: it ends at the first mark or white space that no backslash escapes. The test says whether the
+-- character before escapes the first of these
+abbrev pub key_length : Bool → List ℕ → ℕ
+key_length escaped [] = 0
+key_length escaped (c ∷ cs) = cond (not escaped && is_separator c) 0 (1 + key_length (not escaped && is_backslash c) cs)
 
 -- a text without one mark in front
 abbrev pub without_mark : List ℕ → List ℕ
@@ -98,11 +106,11 @@ without_mark [] = []
 without_mark (c ∷ cs) = cond (is_mark c) cs (c ∷ cs)
 
 unfoldable pub key_part : List ℕ → List ℕ
-key_part text = take (key_length text) text
+key_part text = take (key_length false text) text
 
 -- what follows the key, white space, at most one mark, and white space again
 unfoldable pub value_part : List ℕ → List ℕ
-value_part text = trimmed (without_mark (trimmed (drop (key_length text) text)))
+value_part text = trimmed (without_mark (trimmed (drop (key_length false text) text)))
 
 -- ---- escapes
 

@@ -1,0 +1,32 @@
+-- What the reader of a properties text has at a place within it.
+use Rattle.std.specs.Prelude.{ℕ, ◌+◌, Bool, true, false, cond, ◌&&◌, nat_eq, List, [], ◌∷◌, length}
+use Rattle.std.specs.declared.option.Option.{Option}
+use Rattle.std.specs.declared.option.Option.TheVariants.{None, Some}
+use Rattle.std.specs.Prelude.{String, string_bytes}
+use Rattle.std.specs.Global.{Global}
+use Rattle.std.specs.Borrow.{Bor}
+use Rattle.gob_props.specs.Properties.{Logical, logical_from, Character, Entry}
+
+-- what follows the line end in front
+abbrev pub after_end : List ℕ → List ℕ
+after_end [] = []
+after_end (c ∷ []) = []
+after_end (c ∷ d ∷ cs) = cond (nat_eq c 13 && nat_eq d 10) cs (d ∷ cs)
+
+-- a bound on the natural lines that are left
+abbrev pub most_lines : Option (List ℕ) → ℕ
+most_lines None = 0
+most_lines (Some text) = length text + 1
+
+-- the logical lines from a line on that has begun, and goes on or not
+abbrev pub later_lines : Bool → Logical → ℕ → List (List ℕ) → List Logical
+later_lines true begun n lines = logical_from (Some begun) n lines
+later_lines false begun n lines = begun ∷ logical_from None n lines
+
+-- a character and what follows it, as the code has them
+abbrev pub character_of : ℕ × Bor (List ℕ) → Character
+character_of p = record { value = p.0; after = p.1.now }
+
+-- the bytes of a key and a value
+abbrev pub entry_from : String Global × String Global → Entry
+entry_from p = (string_bytes p.0, string_bytes p.1)
