@@ -2,3 +2,4 @@ pub mod Examples
 pub mod NaturalLemmas
 pub mod LogicalLemmas
 pub mod EscapeLemmas
+pub mod EntryLemmas

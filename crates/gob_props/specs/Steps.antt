@@ -5,7 +5,11 @@ use Rattle.std.specs.declared.option.Option.TheVariants.{None, Some}
 use Rattle.std.specs.Prelude.{String, string_bytes}
 use Rattle.std.specs.Global.{Global}
 use Rattle.std.specs.Borrow.{Bor}
-use Rattle.gob_props.specs.Properties.{Logical, logical_from, Character, Entry}
+use Rattle.std.specs.declared.result.Result.{Result}
+use Rattle.std.specs.declared.result.Result.TheVariants.{Ok, Err}
+use Rattle.gob_props.specs.declared.fault.PropsFault.{PropsFault}
+use Rattle.gob_props.specs.declared.fault.PropsFault.TheVariants.{BadEscape}
+use Rattle.gob_props.specs.Properties.{Logical, logical_from, Character, Entry, entry_of, with_entry}
 
 -- what follows the line end in front
 abbrev pub after_end : List ℕ → List ℕ
@@ -30,3 +34,11 @@ character_of p = record { value = p.0; after = p.1.now }
 -- the bytes of a key and a value
 abbrev pub entry_from : String Global × String Global → Entry
 entry_from p = (string_bytes p.0, string_bytes p.1)
+
+-- the entries with that of a logical line, or the fault that its escapes have
+abbrev pub put_entry : List Entry → ℕ → Option Entry → Result (List Entry) PropsFault
+put_entry es number None = Err (BadEscape number)
+put_entry es number (Some e) = Ok (with_entry es e)
+
+abbrev pub read_line : List Entry → Logical → Result (List Entry) PropsFault
+read_line es l = cond (nat_eq (length l.text) 0) (Ok es) (put_entry es l.number (entry_of l.text))

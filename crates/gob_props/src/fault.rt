@@ -1,4 +1,7 @@
 //! Why a text has no properties.
+ghost use Rattle.std.specs.Prelude.{◌≡◌};
+
+use std::alloc::AllocError;
 use thiserror::Error;
 
 #[derive(Debug, Drop, Error)]
@@ -10,4 +13,14 @@ pub enum PropsFault {
     BadEscape { line: u64 },
     #[error("out of memory")]
     Memory,
+}
+
+impl From<AllocError> for PropsFault {
+    ghost use Rattle.gob_props.specs.declared.fault.PropsFault.TheVariants.{Memory};
+
+    ghost from_gives = { λ _ fault. fault ≡ Memory };
+
+    fn from(_error: AllocError) -> PropsFault {
+        PropsFault::Memory
+    }
 }

@@ -4,5 +4,9 @@
 mod entry;
 mod fault;
 mod lines;
+mod props;
+mod read;
 
 pub use fault::PropsFault;
+pub use props::Props;
+pub use read::read_props;

@@ -114,6 +114,7 @@ pub(crate) fn join_lines<'a>(
     ensures joined { IfOk result (λ j. (n : ℕ) →
         later_lines (spec.goes_on line.now) (spec.with_line (record { number = n; text = [] }) line.now) (n + 1) (spec.lines_left (option_copied after.entry))
         ≡ record { number = n; text = j.text.items } ∷ spec.logical_from None (n + j.count) (spec.lines_left (option_copied j.after))) }
+    ensures some { IfOk result (λ j. 0 < j.count) }
     ensures fewer { IfOk result (λ j. j.count + most_lines (option_copied j.after) ≤ 1 + most_lines (option_copied after.entry)) }
 {
     let mut text = Vec::new(alloc);

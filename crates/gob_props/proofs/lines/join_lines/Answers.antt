@@ -16,6 +16,7 @@ loop-more-preserved c =
           ∙ ap (λ (o : Option (Bor (List ℕ))). later_lines true (record { number = n; text = l.text.items }) (n + l.count) (lines_left (option_copied o))) c.in-Some.is
           ∙ joined_more n l.count l.text.items c.part_of-in-loop-more.result.now _ _ c.split_natural.result.0.now _ _ c.split_natural.ensures.lines c.in_ok-extend_from_slice-2.ensures.items c.part_of-in-loop-more.ensures c.goes_on-more-in-loop-more.ensures,
       omega (arith, l.invariant.1),
+      omega arith,
     )
 
 pub returns-in_default-clause-joined : goal.returns-in_default-clause-joined
