@@ -1,11 +1,10 @@
 -- What the map of strings holds, as pairs of bytes, and how lines add to it.
-use Rattle.std.proofs.Common.{◌≡◌, ◌≢◌, ℕ, zero, suc, ◌+◌, ◌<◌, ◌≤◌, Bool, true, false, cond, nat_eq, bytes_eq, List, [], ◌∷◌, ◌++◌, length, map, fold, refl, sym, ap, ◌∙◌, arith, Option, Some, None, option_map, Result, Ok, Err, String, Global, string_bytes, string_eq, IsErrAnd}
+use Rattle.std.proofs.Common.{◌≡◌, ℕ, ◌+◌, true, false, cond, nat_eq, bytes_eq, List, [], ◌∷◌, length, map, fold, refl, sym, ap, ◌∙◌, Option, Some, None, option_map, Result, Ok, Err, String, Global, string_bytes, string_eq, IsErrAnd}
 use Rattle.std.specs.Map.{lookup}
 use Rattle.indexmap.specs.IndexMap.{insert_entry}
-use Rattle.std.proofs.lemmas.Bool.{cond_both, cond-true, cond-false}
 use Rattle.gob_props.specs.declared.fault.PropsFault.{PropsFault}
-use Rattle.gob_props.specs.declared.fault.PropsFault.TheVariants.{BadEscape}
-use Rattle.gob_props.specs.Properties.{Entry, Logical, with_entry, with_all, value_at, all_entries, put_first, entry_of, natural_lines, lines_left, is_passed_over, goes_on, with_line, logical_from}
+use Rattle.gob_props.specs.Properties.{Entry, Logical, with_entry, with_all, all_entries, put_first, entry_of, natural_lines, lines_left, is_passed_over, goes_on, with_line, logical_from}
+use Rattle.gob_bytes.specs.Tables.{at_name}
 use Rattle.gob_props.specs.Steps.{entry_from, put_entry, read_line, later_lines}
 use Rattle.gob_props.proofs.LogicalLemmas.{logical_passed, logical_start}
 
@@ -17,10 +16,10 @@ view-put (e ∷ es) k v =
       | false ↦ ap (λ (later : List Entry). entry_from e ∷ later) (view-put es k v)
     ]
 
-pub view-get : (es : List (String Global × String Global)) (key : List ℕ) → option_map string_bytes (lookup (λ (k : String Global). bytes_eq key (string_bytes k)) es) ≡ value_at (map entry_from es) key
+pub view-get : (es : List (String Global × String Global)) (key : List ℕ) → option_map string_bytes (lookup (λ (k : String Global). bytes_eq key (string_bytes k)) es) ≡ at_name (map entry_from es) key
 view-get [] key = refl
 view-get (e ∷ es) key =
-    elim (bytes_eq key (string_bytes e.0)) as (λ t. option_map string_bytes (cond t (Some e.1) (lookup (λ (k : String Global). bytes_eq key (string_bytes k)) es)) ≡ cond t (Some (string_bytes e.1)) (value_at (map entry_from es) key)) [
+    elim (bytes_eq key (string_bytes e.0)) as (λ t. option_map string_bytes (cond t (Some e.1) (lookup (λ (k : String Global). bytes_eq key (string_bytes k)) es)) ≡ cond t (Some (string_bytes e.1)) (at_name (map entry_from es) key)) [
       | true ↦ refl
       | false ↦ view-get es key
     ]

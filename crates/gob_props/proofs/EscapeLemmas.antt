@@ -1,11 +1,10 @@
 -- How escapes are read.
-use Rattle.std.proofs.Common.{◌≡◌, ◌≢◌, ℕ, zero, suc, ◌+◌, ◌-◌, ◌*◌, ◌<◌, ◌≤◌, Bool, true, false, cond, not, ◌&&◌, nat_eq, List, [], ◌∷◌, ◌++◌, length, get_or, take, drop, refl, sym, ap, subst, ◌∙◌, arith, Option, Some, None, IfSome, option_map, option_and_then, append_assoc, append-nil, encode_utf8, encode_utf8_all, length-drop}
+use Rattle.std.proofs.Common.{◌≡◌, ℕ, zero, suc, ◌+◌, ◌-◌, ◌*◌, ◌<◌, ◌≤◌, Bool, false, nat_eq, List, [], ◌∷◌, ◌++◌, length, get_or, take, drop, refl, sym, ap, subst, ◌∙◌, arith, Option, Some, None, IfSome, option_map, option_and_then, append_assoc, append-nil, encode_utf8, encode_utf8_all, length-drop}
 use Rattle.std.specs.List.{list_all}
 use Rattle.std.specs.Char.{digit_value, is_digit}
-use Rattle.std.specs.Str.Parse.{digits_value}
-use Rattle.std.proofs.lemmas.Bool.{cond_both, cond-true, cond-false, and_left, and_right, and_from, ne_eqb, eq-eqb, lt-ltb, le-ltb}
+use Rattle.std.proofs.lemmas.Bool.{cond_both, cond-true, cond-false, and_left, and_right, and_from, lt-ltb, le-ltb}
 use Rattle.std.proofs.lemmas.List.{get_or_read}
-use Rattle.gob_props.specs.Properties.{is_separator, is_backslash, key_length, Character, code_unit, escaped_unit, paired, coded, escape, is_high, is_low, first_character, read_characters, unescaped, paired_up}
+use Rattle.gob_props.specs.Properties.{is_backslash, Character, code_unit, escaped_unit, paired, coded, escape, is_high, is_low, first_character, read_characters, unescaped, paired_up}
 use Rattle.std.proofs.Math.Seq.{take-length}
 
 -- ---- code units

@@ -1,10 +1,10 @@
 -- How natural lines make logical ones.
-use Rattle.std.proofs.Common.{◌≡◌, ◌≢◌, ℕ, ◌+◌, ◌-◌, ◌%◌, ◌<◌, ◌≤◌, Bool, true, false, cond, nat_eq, List, [], ◌∷◌, ◌++◌, length, get_or, take, refl, sym, ap, ◌∙◌, arith, Option, Some, None, zero, suc}
+use Rattle.std.proofs.Common.{◌≡◌, ◌≢◌, ℕ, ◌+◌, ◌-◌, ◌%◌, ◌<◌, ◌≤◌, Bool, true, false, cond, nat_eq, List, [], ◌∷◌, ◌++◌, length, get_or, take, refl, sym, ap, ◌∙◌, arith, Some, None, zero, suc}
 use Rattle.std.specs.List.{suffix_len}
 use Rattle.std.proofs.lemmas.Bool.{ne_eqb, cond-true, cond-false, true≢false}
 use Rattle.std.proofs.lemmas.List.Sums.{suffix_len-take_no}
-use Rattle.gob_props.specs.Properties.{is_backslash, goes_on, part_of, is_passed_over, Logical, with_line, logical_from, natural_lines, lines_left}
-use Rattle.gob_props.specs.Steps.{later_lines, most_lines}
+use Rattle.gob_props.specs.Properties.{is_backslash, goes_on, part_of, is_passed_over, Logical, with_line, logical_from}
+use Rattle.gob_props.specs.Steps.{later_lines}
 
 suffix_none : (line : List ℕ) (before : ℕ) → before ≤ length line → (0 < before → get_or line (before - 1) 0 ≢ 92) → suffix_len is_backslash (take before line) ≡ 0
 suffix_none line zero inside other = refl

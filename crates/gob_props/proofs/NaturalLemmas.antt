@@ -1,8 +1,8 @@
 -- The first natural line of a text.
-use Rattle.std.proofs.Common.{◌≡◌, ◌≢◌, ℕ, zero, suc, ◌+◌, ◌<◌, ◌≤◌, Bool, true, false, cond, ◌&&◌, ◌||◌, nat_eq, List, [], ◌∷◌, ◌++◌, length, get_or, take, drop, refl, sym, ap, ◌∙◌, arith, append_assoc, append-nil}
-use Rattle.std.proofs.lemmas.Bool.{cond_both, cond-true, cond-false, and_left, or_parts, or_left, and_parts}
-use Rattle.gob_props.specs.Properties.{is_line_end, natural_from, natural_lines, lines_left}
-use Rattle.gob_props.specs.Steps.{after_end, most_lines}
+use Rattle.std.proofs.Common.{◌≡◌, ℕ, zero, suc, ◌+◌, ◌<◌, ◌≤◌, true, false, cond, ◌&&◌, nat_eq, List, [], ◌∷◌, ◌++◌, length, get_or, take, drop, sym, ap, ◌∙◌, arith, append_assoc, append-nil}
+use Rattle.std.proofs.lemmas.Bool.{cond_both, cond-true, cond-false, and_left, or_parts}
+use Rattle.gob_props.specs.Properties.{is_line_end, natural_from}
+use Rattle.gob_props.specs.Steps.{after_end}
 
 pair_no : (c d : ℕ) → is_line_end c ≡ false → (nat_eq c 13 && nat_eq d 10) ≡ false
 pair_no c d h = and_left (nat_eq c 13) (nat_eq d 10) ((or_parts (nat_eq c 10) (nat_eq c 13) h).1)

@@ -1,6 +1,6 @@
 -- What a properties text says: first its natural lines, then its logical lines, then each one's key and value, and then
 -- the escapes in these. A text is a list of characters.
-use Rattle.std.specs.Prelude.{ℕ, zero, suc, ◌+◌, ◌-◌, ◌*◌, ◌%◌, Bool, true, false, cond, ◌&&◌, ◌||◌, not, nat_eq, nat_le, List, [], ◌∷◌, ◌++◌, length, take, drop, fold, map, encode_utf8_all}
+use Rattle.std.specs.Prelude.{ℕ, zero, suc, ◌+◌, ◌-◌, ◌*◌, ◌%◌, Bool, true, false, cond, ◌&&◌, ◌||◌, not, nat_eq, nat_le, List, [], ◌∷◌, ◌++◌, length, take, drop, fold, encode_utf8_all}
 use Rattle.std.specs.declared.option.Option.{Option}
 use Rattle.std.specs.declared.option.Option.TheVariants.{None, Some}
 use Rattle.std.specs.declared.result.Result.{Result}
@@ -212,8 +212,3 @@ read_text text = with_all [] (all_entries (logical_lines text))
 -- the keys and values of a file, in the order of the keys' first places, or why it has none
 unfoldable pub properties_of : List ℕ → Result (List Entry) PropsFault
 properties_of bytes = cond (is_utf8 bytes) (read_text (chars bytes)) (Err NotUtf8)
-
--- the value of a key
-abbrev pub value_at : List Entry → List ℕ → Option (List ℕ)
-value_at [] key = None
-value_at (e ∷ es) key = cond (bytes_eq key e.0) (Some e.1) (value_at es key)

@@ -22,7 +22,8 @@ impl Model for Props {
 impl Props {
     ghost use Rattle.std.specs.Prelude.{◌≡◌, ◌↔◌, [], length, string_bytes, slice_get, IsTrue, OnOk};
     ghost use Rattle.std.specs.Option.{option_copied, option_map};
-    ghost use Rattle.gob_props.specs.Properties.{value_at, with_entry};
+    ghost use Rattle.gob_bytes.specs.Tables.{at_name};
+    ghost use Rattle.gob_props.specs.Properties.{with_entry};
 
     pub(crate) fn new(alloc: Global) -> Self
         ensures { result ≡ [] }
@@ -42,7 +43,7 @@ impl Props {
     }
 
     pub fn get(&self, key: &str) -> Option<&str>
-        ensures { option_copied result ≡ value_at self.now key.now }
+        ensures { option_copied result ≡ at_name self.now key.now }
     {
         Some(self.entries.get(key)?.as_str())
     }

@@ -1,6 +1,4 @@
-use Rattle.std.proofs.Common.{◌≡◌, ℕ, ◌+◌, ◌*◌, get_or, Some, sym, ap, ◌∙◌, arith}
-use Rattle.std.specs.Char.{digit_value}
-use Rattle.std.proofs.lemmas.List.{get_or_read}
+use Rattle.std.proofs.Common.{Some, sym, ap, ◌∙◌, arith}
 use Rattle.gob_props.proofs.EscapeLemmas.{code_unit-short, code_unit-read, digit_bad}
 use Rattle.gob_props.proofs.entry.code_unit.Goals as goal
 

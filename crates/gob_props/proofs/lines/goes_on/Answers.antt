@@ -1,6 +1,5 @@
-use Rattle.std.proofs.Common.{◌≡◌, ◌≢◌, ◌-◌, ◌<◌, length, arith}
+use Rattle.std.proofs.Common.{◌-◌, arith}
 use Rattle.std.proofs.lemmas.List.{get_or_read}
-use Rattle.std.proofs.lemmas.Bool.{eqb-false}
 use Rattle.gob_props.proofs.LogicalLemmas.{goes_on_counted}
 use Rattle.gob_props.proofs.lines.goes_on.Goals as goal
 use Rattle.gob_props.proofs.lines.goes_on.Goals.{then-loop-before-test+else-line-before-eq92, else-loop-before-test}

@@ -1,4 +1,4 @@
-use Rattle.std.proofs.Common.{◌≡◌, true, [], get_or, arith, ◌∙◌, sym, ap}
+use Rattle.std.proofs.Common.{[], arith, ◌∙◌, sym, ap}
 use Rattle.std.proofs.lemmas.List.{get_or_read}
 use Rattle.gob_props.specs.Properties.{is_line_end}
 use Rattle.gob_props.proofs.NaturalLemmas.{natural_cut, natural_whole}

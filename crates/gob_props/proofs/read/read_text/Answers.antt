@@ -1,4 +1,4 @@
-use Rattle.std.proofs.Common.{◌≡◌, ◌+◌, ℕ, List, Option, Some, None, Bor, true, false, sym, ap, ◌∙◌, arith, inl, inr, ⊎_elim, Err}
+use Rattle.std.proofs.Common.{ℕ, List, Option, Bor, sym, ap, ◌∙◌, arith, inl, inr, ⊎_elim, Err}
 use Rattle.std.specs.Option.{option_copied}
 use Rattle.gob_props.specs.Steps.{most_lines, read_line}
 use Rattle.gob_props.proofs.EntryLemmas.{next_line, line_passed, line_joined, line_put, line_bad, reads_end, err_is}
