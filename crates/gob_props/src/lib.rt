@@ -6,6 +6,8 @@ mod fault;
 mod lines;
 mod props;
 mod read;
+#[cfg(test)]
+mod tests;
 
 pub use fault::PropsFault;
 pub use props::Props;

@@ -1,12 +1,12 @@
 -- What `parse` answers at digits, in the words of the definitions.
-use Rattle.std.proofs.Common.{◌≡◌, ◌≢◌, ℕ, ◌-◌, ◌<◌, ◌≤◌, ◌^◌, true, false, cond, nat_eq, ◌&&◌, List, [], ◌∷◌, length, get_or, drop, Some, None, Result, Ok, Err, refl, ap, ◌∙◌, sym, arith, pos, neg_ℤ, ℤ, IsAscii, IsUtf8, ⊎_elim}
+use Rattle.std.proofs.Common.{◌≡◌, ℕ, ◌-◌, ◌<◌, ◌≤◌, ◌^◌, true, false, cond, nat_eq, ◌&&◌, List, [], ◌∷◌, length, get_or, drop, Some, None, Result, Ok, Err, refl, ap, ◌∙◌, sym, arith, pos, neg_ℤ, ℤ, IsAscii, IsUtf8, ⊎_elim}
 use mir.Syntax.{w64}
 use Rattle.std.specs.Char.{is_ascii_digit}
 use Rattle.std.specs.List.{list_all}
 use Rattle.std.specs.Result.{result_ok}
 use Rattle.std.specs.Str.{all_ascii_digits}
 use Rattle.std.specs.Str.Parse.{digits_value, ParsesUnsigned, ParsesSigned}
-use Rattle.std.proofs.lemmas.Bool.{cond-true, cond-false, and_from, and_left, and_right, le-leb, lt-leb, eq-eqb, ne_eqb, eqb-true, cond_both, cases_Bool, and_parts}
+use Rattle.std.proofs.lemmas.Bool.{cond-true, cond-false, and_from, and_left, and_right, le-leb, lt-leb, eqb-true, cond_both, cases_Bool, and_parts}
 use Rattle.std.proofs.lemmas.Bool.Decides.{nat_tests}
 use Rattle.std.proofs.lemmas.Str.Ascii.{IsAscii-nil, IsAscii-cons}
 use Rattle.std.proofs.lemmas.Str.{IsUtf8-from_ascii}
@@ -21,11 +21,9 @@ pub list_all-digits : (bs : List ℕ) → list_all is_ascii_digit bs ≡ all_asc
 list_all-digits [] = refl
 list_all-digits (b ∷ bs) = ap (λ t. is_ascii_digit b && t) (list_all-digits bs)
 
-pub number_read-spare : (bs : List ℕ) → 1 < length bs → get_or bs 0 0 ≡ 48 → number_read bs ≡ None
+pub number_read-spare : (bs : List ℕ) → has_spare_zero bs ≡ true → number_read bs ≡ None
 unfolding number_read
-number_read-spare [] long first = absurd (omega arith)
-number_read-spare (b ∷ []) long first = absurd (omega arith)
-number_read-spare (b ∷ c ∷ bs) long first = cond-true _ _ _ (eq-eqb b 48 first)
+number_read-spare bs spare = cond-true _ _ _ spare
 
 is_digits-no : (bs : List ℕ) → list_all is_ascii_digit bs ≡ false → is_digits bs ≡ false
 is_digits-no [] h = refl
@@ -47,11 +45,6 @@ read_up_to-large most bs large = cond-false _ _ _ (and_right _ _ (lt-leb _ _ lar
 
 read_up_to-yes : (most : ℕ) (bs : List ℕ) → is_digits bs ≡ true → digits_value 10 bs ≤ most → read_up_to most bs ≡ Some (digits_value 10 bs)
 read_up_to-yes most bs digits small = cond-true _ _ _ (and_from _ _ digits (le-leb _ _ small))
-
-has_spare_zero-no : (bs : List ℕ) → (1 < length bs → get_or bs 0 0 ≢ 48) → has_spare_zero bs ≡ false
-has_spare_zero-no [] h = refl
-has_spare_zero-no (b ∷ []) h = refl
-has_spare_zero-no (b ∷ c ∷ bs) h = ne_eqb b 48 (h (omega arith))
 
 read_up_to-refused : (most : ℕ) (bs : List ℕ) → list_all is_ascii_digit bs ≡ true → ((0 < length bs) × (digits_value 10 bs ≤ most) → ⊥) → read_up_to most bs ≡ None
 read_up_to-refused most [] digits never = refl
@@ -79,9 +72,9 @@ read_from_parse {E} bs (Err e) parsed digits =
     let refused = parse_digits own {E = E} 64 bs (Err e) parsed (sym (list_all-digits bs) ∙ digits) in
     sym (read_up_to-refused (2 ^ 64 - 1) bs digits (λ h. refused (h.0, omega arith)))
 
-pub number_read-parsed : {E : Type 0} (bs : List ℕ) (r : Result ℕ E) → ParsesUnsigned 64 10 bs r → list_all is_ascii_digit bs ≡ true → (1 < length bs → get_or bs 0 0 ≢ 48) → result_ok r ≡ number_read bs
+pub number_read-parsed : {E : Type 0} (bs : List ℕ) (r : Result ℕ E) → ParsesUnsigned 64 10 bs r → list_all is_ascii_digit bs ≡ true → has_spare_zero bs ≡ false → result_ok r ≡ number_read bs
 unfolding number_read
-number_read-parsed bs r parsed digits first = read_from_parse bs r parsed digits ∙ sym (cond-false _ _ _ (has_spare_zero-no bs first))
+number_read-parsed bs r parsed digits first = read_from_parse bs r parsed digits ∙ sym (cond-false _ _ _ first)
 
 -- ---- integers
 

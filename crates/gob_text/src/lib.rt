@@ -8,6 +8,8 @@ mod ends;
 mod front;
 mod names;
 mod numbers;
+#[cfg(test)]
+mod tests;
 mod words;
 
 pub use ends::{first_line_end, last_line_end};

@@ -5,7 +5,7 @@ ghost use Rattle.std.specs.List.{list_all};
 ghost use Rattle.std.specs.Fmt.{decimal, signed_decimal};
 ghost use Rattle.gob_bytes.specs.Additions.{AddsFront};
 ghost use Rattle.gob_bytes.specs.Digits.{offset};
-ghost use Rattle.gob_bytes.specs.Numbers.{number_read, integer_read};
+ghost use Rattle.gob_bytes.specs.Numbers.{has_spare_zero, number_read, integer_read};
 
 use itoa::Buffer;
 use std::alloc::AllocError;
@@ -19,6 +19,16 @@ fn are_digits(text: &[u8]) -> bool
     text.iter().all(|b| b.is_ascii_digit())
 }
 
+// Whether more digits follow a zero.
+fn has_spare_zero(text: &[u8]) -> bool
+    ensures { result ≡ has_spare_zero text.now }
+{
+    match text {
+        [first, _, ..] => *first == b'0',
+        _ => false,
+    }
+}
+
 /// The number that the text writes in its one form.
 pub fn read_u64(text: &[u8]) -> Option<u64>
     ensures { result ≡ number_read text.now }
@@ -26,7 +36,7 @@ pub fn read_u64(text: &[u8]) -> Option<u64>
     if !are_digits(text) {
         return None;
     }
-    if text.len() > 1 && text[0] == b'0' {
+    if has_spare_zero(text) {
         return None;
     }
     match str::from_utf8(text) {
@@ -53,7 +63,7 @@ pub fn read_i64(text: &[u8]) -> Option<i64>
         return None;
     }
     match str::from_utf8(text) {
-        Ok(digits) => digits.parse().ok(),
+        Ok(integer) => integer.parse().ok(),
         Err(_) => None,
     }
 }
