@@ -61,3 +61,11 @@ along_then R None (Some e) new joins a b = absurd a
 along_then R (Some d) None new joins a b = absurd a
 along_then R (Some d) (Some e) None joins a b = b
 along_then R (Some d) (Some e) (Some f) joins a b = went_then R d e f joins a b
+
+-- what is said of it may be weaker
+pub along_map : (R S : Files → Files → Type 0) (old new : Option Disk) → ((m n : Files) → R m n → S m n) → Along R old new → Along S old new
+unfolding Along
+along_map R S None None weaker a = tt
+along_map R S None (Some e) weaker a = a
+along_map R S (Some d) None weaker a = a
+along_map R S (Some d) (Some e) weaker a = record { added = a.added; trail = a.trail; each = each-map (R d.files) (S d.files) a.added (weaker d.files) a.each; last = weaker d.files e.files a.last }

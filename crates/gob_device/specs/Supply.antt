@@ -22,6 +22,10 @@ pub record Supply : Type 0 where
 abbrev pub with_pull : Pull → Supply → Supply
 with_pull p s = record s { pulls = s.pulls ++ p ∷ [] }
 
+-- pulls that were answered one after the other
+abbrev pub with_pulls : List Pull → Supply → Supply
+with_pulls ps s = record s { pulls = s.pulls ++ ps }
+
 -- a partition's bytes; one that isn't there has none
 abbrev pub bytes_at : Held → List ℕ → List ℕ
 bytes_at held part = unwrap_or (at_name held part) []

@@ -76,11 +76,13 @@ watermark_of m = reached 0 m.finished
 abbrev pub mark_line : List ℕ × Marks → List ℕ
 mark_line e = words (codes "mark") (escaped e.0 ∷ decimal (watermark_of e.1) ∷ decimal e.1.next ∷ [])
 
+-- what all units made, in all and in each branch
+abbrev pub count_lines : Counts → List ℕ
+count_lines c = words (codes "total") (tally c) ++ flat_map (λ b. words (codes "total") (codes "branch" ∷ branch_tally b)) (enumerate_from 0 c.branches)
+
 -- what the state says in all
 abbrev pub total_lines : State → List ℕ
-total_lines s = words (codes "total") (tally s.totals)
-    ++ flat_map (λ b. words (codes "total") (codes "branch" ∷ branch_tally b)) (enumerate_from 0 s.totals.branches)
-    ++ numbered (codes "runs") (s.run ∷ [])
+total_lines s = count_lines s.totals ++ numbered (codes "runs") (s.run ∷ [])
 
 -- 0 where every unit is good, else 1
 abbrev pub run_status : List Verdict → ℕ

@@ -1,0 +1,14 @@
+pub mod Spaced
+pub mod PlainUnits
+pub mod Ends
+pub mod CutUnits
+pub mod PlainText
+pub mod PlainVerdicts
+pub mod PlainPulls
+pub mod PlainState
+pub mod PlainLeft
+pub mod Written
+pub mod Writes
+pub mod Published
+pub mod Named
+pub mod Ran

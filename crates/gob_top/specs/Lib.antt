@@ -1,0 +1,7 @@
+pub mod World
+pub mod Answers
+pub mod Runs
+pub mod Plain
+pub mod Inputs
+pub mod Cuts
+pub mod Lines

@@ -1,0 +1,15 @@
+//! The words of a command line.
+ghost use Rattle.std.specs.Prelude.{◌≡◌, map, option_map, string_bytes};
+ghost use Rattle.gob_top.specs.Answers as answers;
+
+use gob_text::is_job_name;
+
+/// The job of `run JOB`, or None where the words are no command line.
+pub fn job_to_run(words: &[String]) -> Option<&str>
+    ensures { option_map (λ job. job.now) result ≡ answers.job_to_run (map string_bytes words.now) }
+{
+    match words {
+        [word, job] if word.as_str() == "run" && is_job_name(job.as_str()) => Some(job.as_str()),
+        _ => None,
+    }
+}
