@@ -1,0 +1,10 @@
+//! What the devices in memory share: values by name, failures that are planned, and reads that fill a buffer.
+#![tactic(auto)]
+
+mod fill;
+mod planned;
+mod table;
+
+pub use fill::fill_from;
+pub use planned::Planned;
+pub use table::{find, get, set, take};
