@@ -1,1 +1,4 @@
+pub mod Joined
 pub mod Listing
+pub mod MemSink
+pub mod MemSource

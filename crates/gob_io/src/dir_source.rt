@@ -1,9 +1,10 @@
 //! The edge over the files of a real folder.
 
 ghost use Rattle.std.specs.Prelude.{◌≡◌, ◌≤◌, length, map, IfOk};
-ghost use Rattle.gob_device.specs.Supply.{IsListed, line_end_or_zero, looked};
+ghost use Rattle.gob_device.specs.Supply.{IsListed};
 ghost use Rattle.gob_io.specs.Listing.{entry_of};
 
+use crate::line_ends::keep_line_ends;
 use crate::listing::is_listed;
 use crate::{ListFault, Part, Source};
 use gob_folders::{Folder, OpenFiles, WalkFault, read_full};
@@ -84,21 +85,6 @@ impl<'a, R: Files> DirSource<'a, R> {
         } else {
             Err(ListFault::Failed)
         }
-    }
-}
-
-// A look tells line ends alone.
-fn only_line_end(byte: u8) -> u8
-    ensures { result ≡ line_end_or_zero byte }
-{
-    if byte == b'\n' { b'\n' } else { 0 }
-}
-
-fn keep_line_ends(bytes: &mut [u8])
-    ensures { bytes.new ≡ looked bytes.old }
-{
-    for byte in bytes.iter_mut() {
-        *byte = only_line_end(*byte);
     }
 }
 

@@ -2,12 +2,18 @@
 #![tactic(auto)]
 
 mod dir_source;
+mod joined;
+mod line_ends;
 mod listing;
+mod mem_sink;
+mod mem_source;
 mod sink;
 mod source;
 mod std_sink;
 
 pub use dir_source::DirSource;
+pub use mem_sink::MemSink;
+pub use mem_source::{MemSource, Pulled};
 pub use sink::Sink;
 pub use source::{ListFault, Part, Source};
 pub use std_sink::StdSink;

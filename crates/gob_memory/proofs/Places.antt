@@ -109,6 +109,13 @@ with-stands t name x i at = along x t i at.rank at.within at.named
             let rest : with_name es name x ≡ set es (rank_of es name) (name, x) = later (rank_of es name) refl (omega (arith, within, next)) (λ d. ap (λ j. (get_or (e ∷ es) j d).0) next ∙ named d) in
             rw (is, ← next) (ap (λ later. e ∷ later) rest)
 
+-- the same, where the code writes the value of an entry
+pub with-changed : {X : Type 0} (t : Table X) (name : List ℕ) (i : ℕ) (e : List ℕ × X) (x : X) → StandsAt t name i → e ≡ get_or t i e → set t i (e.0, x) ≡ with_name t name x
+with-changed t name i e x at is = ap (λ (f : List ℕ × _). set t i (f.0, x)) is ∙ ap (λ n. set t i (n, x)) (at.named e) ∙ sym (with-stands t name x i at)
+
+pub at-changed : {X : Type 0} (t : Table X) (name : List ℕ) (i : ℕ) (e : List ℕ × X) → Rising (names_of t) → StandsAt t name i → e ≡ get_or t i e → at_name t name ≡ Some e.1
+at-changed t name i e rising at is = value_there t name i e rising at ∙ ap (λ (f : List ℕ × _). Some f.1) (sym is)
+
 -- a value at a name that wasn't there
 pub with-goes : {X : Type 0} (t : Table X) (name : List ℕ) (x : X) (i : ℕ) → GoesAt t name i → with_name t name x ≡ insert t i (name, x)
 with-goes t name x i at = along x t at.absent ∙ ap (λ j. insert t j (name, x)) at.rank
@@ -125,6 +132,9 @@ with-goes t name x i at = along x t at.absent ∙ ap (λ j. insert t j (name, x)
         cases Greater is later =
             let gone : at_name es name ≡ None = sym (ap (λ b. cond b (Some e.1) (at_name es name)) (apart_greater name e.0 is)) ∙ absent in
             rw is (ap (λ later. e ∷ later) (later gone))
+
+pub with-added : {X : Type 0} (t : Table X) (name other : List ℕ) (x : X) (i : ℕ) → GoesAt t name i → other ≡ name → insert t i (other, x) ≡ with_name t name x
+with-added t name other x i at same = ap (λ n. insert t i (n, x)) same ∙ sym (with-goes t name x i at)
 
 -- a name that is taken away
 pub without-stands : {X : Type 0} (t : Table X) (name : List ℕ) (i : ℕ) → StandsAt t name i → without_name t name ≡ remove t i

@@ -1,6 +1,5 @@
-use Rattle.std.proofs.Common.{◌≡◌, length, take, arith}
+use Rattle.std.proofs.Common.{arith}
 use Rattle.std.proofs.lemmas.List.{length-take-le}
-use Rattle.gob_device.specs.Supply.{looked}
 use Rattle.gob_device.proofs.Looks.{looked-front}
 use Rattle.gob_io.proofs.dir_source.DirSourceSource.look.Goals as goal
 
