@@ -1,2 +1,5 @@
+pub mod Failing
+pub mod Moved
 pub mod Names
+pub mod Replays
 pub mod Revised

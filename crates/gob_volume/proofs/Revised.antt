@@ -1,7 +1,7 @@
 -- A table in which the file at one place was changed.
 use Rattle.std.proofs.Common.{◌≡◌, ℕ, List, get_or, ap, sym, ◌∙◌, Some}
 use Rattle.std.proofs.Math.ListN.{set}
-use Rattle.gob_bytes.specs.Tables.{Table, Rising, at_name, names_of, with_name}
+use Rattle.gob_bytes.specs.Tables.{Table, Rising, names_of, with_name}
 use Rattle.gob_device.specs.Disk.{File}
 use Rattle.gob_memory.specs.Places.{StandsAt}
 use Rattle.gob_memory.proofs.Places.{at-changed, with-changed}

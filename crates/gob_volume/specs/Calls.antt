@@ -1,11 +1,11 @@
 -- The maps that a list of calls stands for.
-use Rattle.std.specs.Prelude.{◌≡◌, ℕ, ◌≤◌, List, [], ◌∷◌, ◌++◌, take, drop, length, map}
+use Rattle.std.specs.Prelude.{◌≡◌, ℕ, ◌≤◌, List, [], ◌∷◌, take, drop, length}
 use Rattle.std.specs.declared.option.Option.TheVariants.{Some}
 use Rattle.std.proofs.Props.{props}
 use Rattle.gob_bytes.specs.Tables.{Table, Rising, at_name, names_of}
 use Rattle.gob_device.specs.Disk.{File, Files, Disk, clean, no_files, put, created, appended, synced, renamed, removed}
 use Rattle.gob_memory.specs.Order.{Rising-prop}
-use Rattle.gob_volume.specs.Crashes.{crashed, left_torn, settled}
+use Rattle.gob_volume.specs.Crashes.{crashed, left_torn}
 use Rattle.gob_volume.specs.declared.calls.Call.{Call}
 use Rattle.gob_volume.specs.declared.calls.Call.TheVariants.{Create, Append, Sync, Rename, Remove, Tear, Put, Crash}
 

@@ -1,16 +1,16 @@
 //! Files by name, and what is read of them.
 
-ghost use Rattle.std.specs.Prelude.{◌≡◌, ◌≤◌, length, map, option_map, IfOk, IfSome, IsSome, OnErr, OnOk};
+ghost use Rattle.std.specs.Prelude.{◌≡◌, ◌≢◌, ◌≤◌, length, map, option_map, IfOk, IfSome, IsSome, OnErr, OnOk};
 ghost use Rattle.gob_bytes.specs.Tables.{Rising, at_name, names_of};
 ghost use Rattle.gob_bytes.specs.Paths.{begins_with};
 ghost use Rattle.gob_memory.specs.Places.{StandsAt};
 ghost use Rattle.gob_device.specs.Disk.{IsListing, contents_at, kept_whole, with_more};
-ghost use Rattle.gob_volume.specs.Changed.{IsRevised};
+ghost use Rattle.gob_volume.specs.Changed.{IsMoved, IsRevised};
 ghost use Rattle.gob_volume.specs.Crashes.{settled, torn};
 ghost use Rattle.gob_volume.specs.Reads.{ReadsAt};
 
 use crate::stored::Stored;
-use gob_memory::{fill_from, find, get};
+use gob_memory::{fill_from, find, get, set, take};
 use gob_plan::{NoMemory, Text};
 use std::alloc::Global;
 
@@ -53,6 +53,29 @@ pub fn tear(table: &mut Vec<(Text, Stored)>, name: &str)
 {
     let place = place_of(table.as_slice(), name);
     table[place].1.tear();
+}
+
+/// Gives a file another name. Without memory all stays as it was.
+pub fn rename(
+    alloc: Global,
+    table: &mut Vec<(Text, Stored)>,
+    from: &str,
+    to: &str,
+) -> Result<(), NoMemory>
+    requires rising { Rising (names_of table.old.items) }
+    requires there { IsSome (at_name table.old.items from.now) }
+    requires differ { from.now ≢ to.now }
+    ensures ok { OnOk result (IsMoved from.now to.now table.old.items table.new.items) }
+    ensures err { OnErr result (table.new.items ≡ table.old.items) }
+{
+    set(alloc, table, to, Stored::new(alloc))?;
+    let Some(stored) = take(table, from) else {
+        unreachable!();
+    };
+    if let Err(_) = set(alloc, table, to, stored) {
+        unreachable!();
+    }
+    Ok(())
 }
 
 /// What a crash leaves of each file, with these bytes in place of loose ones.

@@ -3,9 +3,13 @@
 
 mod calls;
 mod dir_volume;
+mod failures;
 mod files;
+mod mem_volume;
+mod store;
 mod stored;
 mod volume;
 
 pub use dir_volume::DirVolume;
+pub use mem_volume::MemVolume;
 pub use volume::{ReadFault, Volume};
