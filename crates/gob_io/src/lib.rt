@@ -10,6 +10,8 @@ mod mem_source;
 mod sink;
 mod source;
 mod std_sink;
+#[cfg(test)]
+mod tests;
 
 pub use dir_source::DirSource;
 pub use mem_sink::MemSink;

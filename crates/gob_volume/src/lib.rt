@@ -8,6 +8,8 @@ mod files;
 mod mem_volume;
 mod store;
 mod stored;
+#[cfg(test)]
+mod tests;
 mod volume;
 
 pub use dir_volume::DirVolume;
