@@ -1,6 +1,6 @@
 //! Values by name, kept in byte order of names in one vector and found by halving.
 
-ghost use Rattle.std.specs.Prelude.{◌≡◌, ◌≤◌, length, option_copied, ◌↔◌, IsSome, IsOk, IsTrue, MatchResult, OnOk, OnErr};
+ghost use Rattle.std.specs.Prelude.{◌≡◌, option_copied, ◌↔◌, IsSome, IsOk, IsTrue, MatchResult, OnOk, OnErr};
 ghost use Rattle.std.specs.declared.cmp.Ordering.TheVariants.{Greater};
 ghost use Rattle.gob_bytes.specs.Tables.{Rising, at_name, name_cmp, names_of, with_name};
 ghost use Rattle.gob_memory.specs.Places.{GoesAt, StandsAt, rank_of, without_name};

@@ -1,6 +1,6 @@
 //! A volume in memory.
 
-ghost use Rattle.std.specs.Prelude.{◌≡◌, ◌≢◌, ◌≤◌, ◌-◌, [], length, map, option_map, IfOk, IfSome, IsErr, IsSome, OnErr, OnOk};
+ghost use Rattle.std.specs.Prelude.{◌≡◌, ◌≢◌, ◌≤◌, ◌-◌, [], length, option_map, IfOk, IfSome, IsErr, IsSome, OnErr, OnOk};
 ghost use Rattle.gob_device.specs.Causes.{HasCause};
 ghost use Rattle.gob_device.specs.Disk.{Changes, Image, IsListing, Torn, Whole, appended, contents_at, created, no_files, removed, renamed, synced};
 ghost use Rattle.gob_memory.specs.Planned.{calls_of, numbers_of};

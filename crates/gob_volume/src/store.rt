@@ -1,8 +1,8 @@
 //! The files of a volume in memory, and the calls that made them.
 
 ghost use Rattle.std.specs.Prelude.{◌≡◌, ◌≢◌, ◌++◌, ◌∷◌, ◌<◌, ◌≤◌, [], length, option_map, vec_capacity, vec_len, IfOk, IfSome, IsSome, OnErr, OnOk};
-ghost use Rattle.gob_device.specs.Disk.{Image, IsListing, appended, changed, clean, contents_at, created, no_files, removed, renamed, synced};
-ghost use Rattle.gob_volume.specs.Calls.{Stands, Stands-prop, disk_after, placed};
+ghost use Rattle.gob_device.specs.Disk.{IsListing, appended, changed, contents_at, created, no_files, removed, renamed, synced};
+ghost use Rattle.gob_volume.specs.Calls.{Stands, Stands-prop, placed};
 ghost use Rattle.gob_volume.specs.Crashes.{crashed, left_torn};
 ghost use Rattle.gob_volume.specs.Reads.{ReadsAt};
 
