@@ -139,7 +139,8 @@ fn first_character(first: char, rest: &[char]) -> Option<(char, &[char])>
 
 // The text without its escapes, where none is malformed.
 fn unescape(alloc: Global, text: &[char]) -> Result<Option<String>, AllocError>
-    ensures { IfOk result (λ found. option_map string_bytes found ≡ option_map encode_utf8_all (spec.unescaped text.now)) }
+    ensures { IfOk result (λ found.
+        option_map string_bytes found ≡ option_map encode_utf8_all (spec.unescaped text.now)) }
 {
     let mut out = String::new(alloc);
     let mut left = text;

@@ -45,7 +45,8 @@ fn after_end(text: &[char]) -> &[char]
 
 /// The first natural line, and what follows its end where it has one.
 pub(crate) fn split_natural(text: &[char]) -> (&[char], Option<&[char]>)
-    ensures lines { spec.natural_lines text.now ≡ result.0.now ∷ spec.lines_left (option_copied result.1) }
+    ensures lines { spec.natural_lines text.now
+        ≡ result.0.now ∷ spec.lines_left (option_copied result.1) }
     ensures fewer { most_lines (option_copied result.1) ≤ length text.now }
 {
     for (i, c) in text.iter().enumerate() {
@@ -112,10 +113,15 @@ pub(crate) fn join_lines<'a>(
     after: Option<&'a [char]>,
 ) -> Result<Joined<'a>, AllocError>
     ensures joined { IfOk result (λ j. (n : ℕ) →
-        later_lines (spec.goes_on line.now) (spec.with_line (record { number = n; text = [] }) line.now) (n + 1) (spec.lines_left (option_copied after.entry))
-        ≡ record { number = n; text = j.text.items } ∷ spec.logical_from None (n + j.count) (spec.lines_left (option_copied j.after))) }
+        later_lines (spec.goes_on line.now)
+        (spec.with_line (record { number = n; text = [] }) line.now)
+        (n + 1) (spec.lines_left (option_copied after.entry))
+        ≡ record { number = n; text = j.text.items }
+        ∷ spec.logical_from None (n + j.count) (spec.lines_left (option_copied j.after))) }
     ensures some { IfOk result (λ j. 0 < j.count) }
-    ensures fewer { IfOk result (λ j. j.count + most_lines (option_copied j.after) ≤ 1 + most_lines (option_copied after.entry)) }
+    ensures fewer { IfOk result (λ j.
+        j.count + most_lines (option_copied j.after)
+        ≤ 1 + most_lines (option_copied after.entry)) }
 {
     let mut text = Vec::new(alloc);
     text.extend_from_slice(part_of(line))?;

@@ -92,8 +92,8 @@ fn are_column_bytes(bytes: &[u8]) -> bool
     bytes.iter().all(|b| is_column_byte(*b))
 }
 
-/// Whether a job may have this name: 1 to 64 lower-case letters, digits, `_` and `-`, of which the first is a letter
-/// or a digit, and not `jobs`, which is the folder of job files.
+/// Whether a job may have this name: 1 to 64 lower-case letters, digits, `_` and `-`, of which the
+/// first is a letter or a digit, and not `jobs`, which is the folder of job files.
 #[tactic(auto, unfolding(gob_bytes::specs::Names::is_job_name))]
 pub fn is_job_name(text: &str) -> bool
     ensures { result ≡ names.is_job_name text.now }

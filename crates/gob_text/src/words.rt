@@ -13,8 +13,8 @@ use memchr::{memchr, memchr2};
 use std::alloc::{AllocError, Global};
 use std::marker::Model;
 
-/// A text from which words, numbers, names and lines are taken, from its front. What is taken is never taken twice:
-/// a contract sees the text that is left.
+/// A text from which words, numbers, names and lines are taken, from its front. A contract sees
+/// the text that is left.
 #[derive(Drop)]
 pub struct Words<'a> {
     rest: &'a [u8],
@@ -79,7 +79,8 @@ impl<'a> Words<'a> {
 
     /// Takes a line with its line feed, and answers the line without it.
     pub fn take_line(&mut self) -> Option<&'a [u8]>
-        ensures { Takes (λ line. line ++ 10 ∷ []) IsLine GoesOnAtAll self.old self.new (option_copied result) }
+        ensures { Takes (λ line. line ++ 10 ∷ []) IsLine GoesOnAtAll
+            self.old self.new (option_copied result) }
     {
         let (line, rest) = split_line(self.rest)?;
         self.rest = rest;
