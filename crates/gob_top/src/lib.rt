@@ -9,6 +9,8 @@ mod lines;
 mod names;
 mod publish;
 mod run;
+#[cfg(test)]
+mod tests;
 mod texts;
 mod top;
 
