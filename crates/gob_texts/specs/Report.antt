@@ -1,5 +1,5 @@
 -- What a run tells: its units, what became of each, and the state that it left.
-use Rattle.std.specs.Prelude.{ℕ, Bool, true, false, cond, List, [], ◌∷◌, ◌++◌, map, codes}
+use Rattle.std.specs.Prelude.{ℕ, Bool, cond, List, [], ◌∷◌, ◌++◌, map, codes}
 use Rattle.std.specs.List.{flat_map, enumerate_from, list_all}
 use Rattle.std.specs.Fmt.{decimal}
 use Rattle.gob_bytes.specs.Words.{words, numbered}
