@@ -29,6 +29,10 @@ worked = record {
   twice = record { its_units = refl; its_verdicts = refl; its_state = refl; its_text = refl };
   one_fails = record { its_units = refl; its_verdicts = refl; its_state = refl; its_text = refl };
   one_holds_all_back = record { its_units = refl; its_verdicts = refl; its_state = refl; its_text = refl };
+  one_is_gone = record { its_units = refl; its_verdicts = refl; its_state = refl; its_text = refl };
+  two_partitions = record { its_units = refl; its_verdicts = refl; its_state = refl; its_text = refl };
+  pulls_fail = record { its_units = refl; its_verdicts = refl; its_state = refl; its_text = refl };
+  one_pull_fails = record { its_units = refl; its_verdicts = refl; its_state = refl; its_text = refl };
   name_too_long = record { its_units = refl; its_verdicts = refl; its_state = refl; its_text = refl };
   no_job = refl;
   shrunk = refl;
