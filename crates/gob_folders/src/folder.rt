@@ -34,11 +34,18 @@ pub struct Folder<'a, R: Files> {
     rt: &'a R,
     alloc: Global,
     root: String,
+    // The folder that was made last: it and those above it are known to last.
+    made: Option<String>,
 }
 
 impl<'a, R: Files> Folder<'a, R> {
     pub fn new(rt: &'a R, alloc: Global, root: String) -> Self {
-        Folder { rt, alloc, root }
+        Folder {
+            rt,
+            alloc,
+            root,
+            made: None,
+        }
     }
 
     /// The path of a name, which leads nowhere but below the folder.
@@ -78,21 +85,20 @@ impl<'a, R: Files> Folder<'a, R> {
     }
 
     /// Makes an empty file in place of what was there, so that both its name and its emptiness last.
-    pub fn create(&self, name: &str) -> Result<R::File, Failed> {
+    pub fn create(&mut self, name: &str) -> Result<R::File, Failed> {
         let path = self.path(name)?;
         self.make_folders(name)?;
         let fresh = OpenOptions::new()
             .append(true)
             .create_new(true)
             .open(self.rt, path.as_str());
-        match fresh {
-            Ok(file) => {
-                self.sync_folder_of(name)?;
-                Ok(file)
-            }
-            Err(e) if e.kind() == ErrorKind::AlreadyExists => self.empty(path.as_str()),
-            Err(_) => Err(Failed),
-        }
+        let file = match fresh {
+            Ok(file) => file,
+            Err(e) if e.kind() == ErrorKind::AlreadyExists => self.empty(path.as_str())?,
+            Err(_) => return Err(Failed),
+        };
+        self.sync_folder_of(name)?;
+        Ok(file)
     }
 
     fn empty(&self, path: &str) -> Result<R::File, Failed> {
@@ -109,7 +115,7 @@ impl<'a, R: Files> Folder<'a, R> {
     }
 
     /// Gives a file another name, so that it lasts: both folders are synced.
-    pub fn rename(&self, from: &str, to: &str) -> Result<(), Failed> {
+    pub fn rename(&mut self, from: &str, to: &str) -> Result<(), Failed> {
         let source = self.path(from)?;
         let target = self.path(to)?;
         self.make_folders(to)?;
@@ -120,19 +126,23 @@ impl<'a, R: Files> Folder<'a, R> {
         self.sync_folder_of(from)
     }
 
-    /// Takes a name away, so that it stays away. One that isn't there is away already.
+    /// Takes a name away, so that it stays away. One that isn't there may have been taken by a run that was stopped
+    /// before it synced, so its folder is synced too, where there is one.
     pub fn remove(&self, name: &str) -> Result<(), Failed> {
         let path = self.path(name)?;
-        match found(fs::remove_file(self.rt, path.as_str()))? {
+        found(fs::remove_file(self.rt, path.as_str()))?;
+        let folder = self.joined(folder_of(name))?;
+        match found(fs::open(self.rt, folder.as_str()))? {
             None => Ok(()),
-            Some(()) => self.sync_folder_of(name),
+            Some(opened) => opened.sync_all().map_err(|_| Failed),
         }
     }
 
-    /// Makes each folder of a name that isn't there yet, from the root on, and syncs the folder that it stands in.
-    fn make_folders(&self, name: &str) -> Result<(), Failed> {
+    /// Makes each folder of a name that isn't there yet, from the root on, and syncs the folder that each stands in:
+    /// one that is there may have been made by a run that was stopped before it synced.
+    fn make_folders(&mut self, name: &str) -> Result<(), Failed> {
         let parent = folder_of(name);
-        if self.is_folder(parent)? {
+        if self.is_made(parent) {
             return Ok(());
         }
         self.make_root()?;
@@ -143,23 +153,21 @@ impl<'a, R: Files> Folder<'a, R> {
                 }
             }
         }
-        self.make_folder(parent)
+        self.make_folder(parent)?;
+        self.made = Some(text(self.alloc, parent).map_err(|_| Failed)?);
+        Ok(())
     }
 
-    fn is_folder(&self, name: &str) -> Result<bool, Failed> {
-        let path = self.joined(name)?;
-        match found(self.rt.metadata(path.as_str()))? {
-            Some(metadata) => Ok(metadata.is_dir()),
-            None => Ok(false),
+    fn is_made(&self, name: &str) -> bool {
+        match &self.made {
+            Some(made) => made.as_str() == name,
+            None => false,
         }
     }
 
     fn make_root(&self) -> Result<(), Failed> {
-        match fs::create_dir(self.rt, self.root.as_str()) {
-            Ok(()) => sync(self.rt, parent_of(self.root.as_str())),
-            Err(e) if e.kind() == ErrorKind::AlreadyExists => Ok(()),
-            Err(_) => Err(Failed),
-        }
+        make_dir(self.rt, self.root.as_str())?;
+        sync(self.rt, parent_of(self.root.as_str()))
     }
 
     fn make_folder(&self, name: &str) -> Result<(), Failed> {
@@ -167,11 +175,8 @@ impl<'a, R: Files> Folder<'a, R> {
             return Ok(());
         }
         let path = self.joined(name)?;
-        match fs::create_dir(self.rt, path.as_str()) {
-            Ok(()) => self.sync_folder_of(name),
-            Err(e) if e.kind() == ErrorKind::AlreadyExists => Ok(()),
-            Err(_) => Err(Failed),
-        }
+        make_dir(self.rt, path.as_str())?;
+        self.sync_folder_of(name)
     }
 
     fn sync_folder_of(&self, name: &str) -> Result<(), Failed> {
@@ -276,6 +281,15 @@ fn found<T: Drop>(answer: io::Result<T>) -> Result<Option<T>, Failed> {
     match answer {
         Ok(value) => Ok(Some(value)),
         Err(e) if e.kind() == ErrorKind::NotFound => Ok(None),
+        Err(_) => Err(Failed),
+    }
+}
+
+// A folder that may be there already.
+fn make_dir<R: Files>(rt: &R, path: &str) -> Result<(), Failed> {
+    match fs::create_dir(rt, path) {
+        Ok(()) => Ok(()),
+        Err(e) if e.kind() == ErrorKind::AlreadyExists => Ok(()),
         Err(_) => Err(Failed),
     }
 }
