@@ -6,11 +6,9 @@ use Rattle.gob_bytes.specs.Lines.{lines_from}
 use Rattle.gob_device.specs.Supply.{given}
 use Rattle.gob_plan.specs.Tests.{test_holds}
 use Rattle.gob_meaning.specs.Fold.{unit_fold, sent_to, counts_of, stop_of}
-use Rattle.gob_meaning.specs.Fork.{picks, place_of}
+use Rattle.gob_meaning.specs.Fork.{picks}
 use Rattle.gob_meaning.specs.Formats.{decoded, encoded}
 use Rattle.gob_meaning.specs.Items.{branch_items, line_made}
-use Rattle.gob_meaning.specs.Job.{plan_of}
-use Rattle.gob_meaning.specs.Names.{target_name}
 use Rattle.gob_meaning.specs.Policies.{ruling}
 use Rattle.gob_meaning.specs.Results.{warnings_of, verdict_of}
 use Rattle.gob_meaning.specs.Sums.{sum_of}
@@ -22,7 +20,7 @@ use Rattle.gob_texts.specs.Examples.{WorkedTexts}
 use Rattle.std.specs.Str.{is_utf8, chars}
 
 pub worked : WorkedTexts
-unfolding digits is_utf8 chars lib.Utf8.encode escaped lines_from given test_holds unit_fold sent_to counts_of stop_of picks place_of decoded encoded branch_items line_made plan_of target_name ruling warnings_of verdict_of sum_of units_of_parts next_state own_pulls turns_of verdicts_of report_of
+unfolding digits is_utf8 chars lib.Utf8.encode escaped lines_from given test_holds unit_fold sent_to counts_of stop_of picks decoded encoded branch_items line_made ruling warnings_of verdict_of sum_of units_of_parts next_state own_pulls turns_of verdicts_of report_of
 worked = record {
   plain = record { its_units = refl; its_verdicts = refl; its_state = refl; its_text = refl };
   nothing_held = record { its_units = refl; its_verdicts = refl; its_state = refl; its_text = refl };
