@@ -29,15 +29,19 @@ pub record Makes (job : Job) (held : Held) (failing : List ℕ) (before : State)
 abbrev pub killing_job : Job
 killing_job = record killing { name = codes "j12" }
 
+-- a unit for each line
 abbrev pub three_units : List WorkUnit
 three_units = fresh (codes "a.log") 0 2 ∷ fresh (codes "a.log") 2 4 ∷ fresh (codes "a.log") 4 6 ∷ []
 
+-- the second unit is killed by its line, at offset 2
 abbrev pub one_killed : List Verdict
 one_killed = good (lines_written 1) [] ∷ failed (Kill 0 0 2) ∷ good (lines_written 1) [] ∷ []
 
+-- a failed unit is tried once more, and the good ones are committed
 abbrev pub retrying_job : Job
 retrying_job = record one_retry { name = codes "j17" }
 
+-- one new unit for each of two partitions
 abbrev pub one_each : List WorkUnit
 one_each = fresh (codes "a") 0 2 ∷ fresh (codes "b") 0 2 ∷ []
 
@@ -49,9 +53,11 @@ all_done = record { next = 2; finished = done 0 2 ∷ []; owed = [] }
 abbrev pub all_owed : Marks
 all_owed = record { next = 2; finished = []; owed = span 0 2 ∷ [] }
 
+-- both units are committed
 abbrev pub after_both : State
 after_both = record plain_state { parts = (codes "a", all_done) ∷ (codes "b", all_done) ∷ [] }
 
+-- the second unit is committed, and the first is owed
 abbrev pub after_b_alone : State
 after_b_alone = record plain_state { totals = lines_written 1; parts = (codes "a", all_owed) ∷ (codes "b", all_done) ∷ [] }
 
@@ -59,6 +65,7 @@ after_b_alone = record plain_state { totals = lines_written 1; parts = (codes "a
 abbrev pub long_name : List ℕ
 long_name = replicate 181 97
 
+-- what small runs and refusals tell
 pub record WorkedTexts : Type 0 where
   pub plain : Makes job two_lines [] nothing_yet (fresh (codes "a.log") 0 4 ∷ []) (good (lines_written 2) [] ∷ []) plain_state
       (codes "job j1 policy full\nunit a.log 0 4 committed records 2 bad 0 rows 2 unrouted 0\nbranch 0 written 2 errors 0 optional 0\nmark a.log 4 4\ntotal records 2 bad 0 rows 2 unrouted 0\ntotal branch 0 written 2 errors 0 optional 0\nruns 1\nstatus 0\n")
