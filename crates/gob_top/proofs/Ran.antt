@@ -1,5 +1,5 @@
 -- What a plain run answered, from what its steps left.
-use Rattle.std.proofs.Common.{◌≡◌, inl, inr, ℕ, ◌^◌, ◌≤◌, Bool, true, false, cond, List, [], ◌∷◌, length, map, All, refl, sym, ap, subst, ◌∙◌, Some, None, option_map, is_some, IfSome, IsOk, MatchOption, arith, ◌&&◌}
+use Rattle.std.proofs.Common.{◌≡◌, ◌⊎◌, inl, inr, ℕ, ◌^◌, ◌≤◌, Bool, true, false, cond, List, [], ◌∷◌, length, map, All, refl, sym, ap, subst, ◌∙◌, Some, None, option_map, is_some, IfSome, IsOk, MatchOption, arith, ◌&&◌}
 use Rattle.std.specs.declared.option.Option.{Option}
 use Rattle.std.specs.declared.result.Result.TheVariants.{Ok, Err}
 use Rattle.std.specs.List.{list_all, zip}
@@ -23,8 +23,8 @@ use Rattle.gob_top.specs.declared.answer.Refusal.TheVariants.{Usage, NoJob, NotB
 use Rattle.gob_top.specs.declared.input.Input.{Input}
 use Rattle.gob_top.specs.Answers.{Answer}
 use Rattle.gob_top.specs.Inputs.{after_inputs, contents_in, judged_in, numbers_in, state_in, units_in}
-use Rattle.gob_top.specs.Plain.{IsWhole, StoppedByPulls, StoppedBySource, StoppedByVolume, StoppedByWriting, after_first, first_state, good_lines, line_number, plain_units, unit_bytes, whole_pull, with_units}
-use Rattle.gob_top.specs.Runs.{Due, IsDone, IsRefused, OnlyBelow, RunAnswered, Yields, input_refusal, is_plain_text, text_refusal, volume_refusal}
+use Rattle.gob_top.specs.Plain.{IsWhole, StoppedByPulls, StoppedBySource, StoppedByVolume, StoppedByWriting, after_first, first_state, good_lines, line_number, plain_units, unit_bytes, unit_name, whole_pull, with_units}
+use Rattle.gob_top.specs.Runs.{Due, IsDone, IsRefused, Lasting, OnlyBelow, RunAnswered, Yields, input_refusal, is_plain_text, text_refusal, volume_refusal}
 use Rattle.gob_top.specs.World.{World}
 use Rattle.gob_top.proofs.PlainLeft.{left-plain}
 use Rattle.gob_top.proofs.PlainPulls.{pulls-plain}
@@ -330,6 +330,24 @@ state_same : (job : List ℕ) (inputs : List Input) (report : Report) (held : He
 unfolding state_in
 state_same job inputs report held m r plain numbers = (λ k. first_state (r.units k) (numbers k)) ∙ sym (state-plain job held r.listed plain r.few)
 
+-- ---- each file that is written is synced
+
+put_lasts : (m n : Files) (name bytes : List ℕ) → Lasting m n → Lasting m (put n name (Some (clean bytes)))
+put_lasts m n name bytes h other = go (bytes_eq other name)
+  where
+    go : (b : Bool) → (cond b (Some (clean bytes)) (n other) ≡ m other) ⊎ ((left : List ℕ) × (cond b (Some (clean bytes)) (n other) ≡ Some (clean left)))
+    go true = inr (bytes, refl)
+    go false = h other
+
+units_last : (job : List ℕ) (ps : List (WorkUnit × List ℕ)) (m n : Files) → Lasting m n → Lasting m (with_units job ps n)
+units_last job [] m n h = h
+units_last job (p ∷ ps) m n h = units_last job ps m (put n (unit_name job p.0) (Some (clean p.1))) (put_lasts m n (unit_name job p.0) p.1 h)
+
+inputs_last : (job : List ℕ) (inputs : List Input) (m : Files) → Lasting m (after_inputs job inputs m)
+unfolding after_inputs
+inputs_last job [] m = λ name. inl refl
+inputs_last job (i ∷ is) m = put_lasts m _ _ _ (units_last job (contents_in (i ∷ is)) m m (λ name. inl refl))
+
 -- the definitions' run, from the code's
 pub is_done : (job : List ℕ) (inputs : List Input) (report : Report) (d : Disk) (s : Supply) (e : Disk) (t : Supply) → Reported job inputs report s.held d.files
     → e.files ≡ after_inputs job inputs d.files → t ≡ with_pulls (map whole_pull (units_in inputs)) s → IsDone job report d s e t
@@ -341,6 +359,7 @@ is_done job inputs report d s e t r files pulled =
       left = subst (λ m. RunLeft (plain_job job) s.held d.files None [] m)
           (sym (files ∙ (after-inputs-first job inputs d.files (r.lines ∙ numbered_lines inputs) ∙ (λ k. after_first job (r.units k) ((r.bytes ∙ ap (map (unit_bytes s.held)) r.units) k) d.files))))
           (left-plain job s.held d.files r.listed plain r.few (subst (λ us. All (λ u. IsUtf8 u.part) us) r.units r.texts) (no_state job d.files r.none));
+      lasting = subst (λ m. Lasting d.files m) (sym files) (inputs_last job inputs d.files);
       text = r.text ∙ (ap (λ js. report_of job Full [] js (state_in inputs)) (judged_zip inputs ∙ (λ k. zip (r.units k) ((ap (map good_lines) numbers ∙ sym verdicts) k)))
           ∙ ap (λ st. report_of job Full [] (zip (plain_units s.held) (run_verdicts (plain_job job) s.held [] None)) st) (state_same job inputs report s.held d.files r plain numbers));
       status = r.status ∙ sym (ap run_status verdicts ∙ good_status (numbers_of s.held));

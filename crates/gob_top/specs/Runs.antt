@@ -8,7 +8,7 @@ use Rattle.std.specs.Str.{bytes_eq}
 use Rattle.gob_bytes.specs.Lines.{ends_in_lf}
 use Rattle.gob_bytes.specs.Paths.{begins_with, job_file, state_name, under}
 use Rattle.gob_device.specs.Causes.{Rose}
-use Rattle.gob_device.specs.Disk.{Disk, Files, Along, contents_at}
+use Rattle.gob_device.specs.Disk.{Disk, Files, Along, clean, contents_at}
 use Rattle.gob_device.specs.Supply.{Held, Supply, with_pulls}
 use Rattle.gob_meaning.specs.Job.{plain_file, plain_job}
 use Rattle.gob_meaning.specs.Laws.{has_crlf}
@@ -49,9 +49,14 @@ input_refusal job held = cond (list_all (λ u. is_plain_text (bytes_in held u.pa
 
 -- ---- what a run that isn't refused leaves
 
+-- what was written can't be lost in part: each name keeps what it held, or its file was synced
+abbrev pub Lasting : Files → Files → Type 0
+Lasting m n = (name : List ℕ) → (n name ≡ m name) ⊎ ((bytes : List ℕ) × (n name ≡ Some (clean bytes)))
+
 -- the report is of these units, their verdicts and the state that the volume now stores; one pull was made of each unit, in their order
 pub record IsDone (job : List ℕ) (report : Report) (d : Disk) (s : Supply) (e : Disk) (t : Supply) : Type 0 where
   pub left : RunLeft (plain_job job) s.held d.files None [] e.files
+  pub lasting : Lasting d.files e.files
   pub text : report.text ≡ report_of job (plain_job job).policy [] (zip (run_units (plain_job job) s.held None) (run_verdicts (plain_job job) s.held [] None))
       (state_or_empty (plain_job job) (state_after (plain_job job) s.held [] None))
   pub status : report.status ≡ run_status (run_verdicts (plain_job job) s.held [] None)
