@@ -6,18 +6,23 @@ use gob_volume::{MemVolume, Volume};
 use std::alloc::Global;
 use std::process::Abort;
 
+/// The text of a job file.
+pub const JOB_TEXT: &str = "source.format=lines\nwriter.format=lines\n";
+
 /// The job file of `j1`.
-pub const JOB: (&str, &str) = ("jobs/j1.pull", "source.format=lines\nwriter.format=lines\n");
+pub const JOB: (&str, &str) = ("jobs/j1.pull", JOB_TEXT);
 
 /// Where the two lines of the plain case are published.
-pub const TWO_LINES: (&str, &str) = (
-    "j1/out/0/a.log@00000000000000000000-00000000000000000004.txt",
-    "x\ny\n",
-);
+pub const PUBLISHED: &str = "j1/out/0/a.log@00000000000000000000-00000000000000000004.txt";
+
+pub const TWO_LINES: (&str, &str) = (PUBLISHED, "x\ny\n");
+
+/// Where the state of `j1` stands.
+pub const STATE_NAME: &str = "j1/state";
 
 /// The state after the plain case.
 pub const STATE: (&str, &str) = (
-    "j1/state",
+    STATE_NAME,
     "gobblin-state 1
 run 1
 pipeline 12
@@ -43,16 +48,16 @@ end
 
 /// The numbers of the calls that fail, of each kind of call.
 #[derive(Clone, Copy)]
-pub struct Fails<'a> {
-    pub lists: &'a [u64],
-    pub looks: &'a [u64],
-    pub pulls: &'a [u64],
-    pub volume: &'a [u64],
-    pub writes: &'a [u64],
+pub struct Fails {
+    pub lists: &'static [u64],
+    pub looks: &'static [u64],
+    pub pulls: &'static [u64],
+    pub volume: &'static [u64],
+    pub writes: &'static [u64],
 }
 
 /// No call fails.
-pub const NO_FAILS: Fails<'static> = Fails {
+pub const NO_FAILS: Fails = Fails {
     lists: &[],
     looks: &[],
     pulls: &[],
@@ -63,19 +68,22 @@ pub const NO_FAILS: Fails<'static> = Fails {
 /// What a call finds, and what it is to leave. The files that it leaves are those after a crash, which puts a `!` at
 /// the end of the kept bytes of each file that was not synced.
 #[derive(Clone, Copy)]
-pub struct Case<'a> {
-    pub words: &'a [&'a str],
-    pub parts: &'a [(&'a str, &'a [u8])],
-    pub files: &'a [(&'a str, &'a str)],
-    pub fails: Fails<'a>,
+pub struct Case {
+    pub words: &'static [&'static str],
+    pub parts: &'static [(&'static str, &'static [u8])],
+    pub files: &'static [(&'static str, &'static str)],
+    pub fails: Fails,
     pub status: u8,
-    pub text: &'a str,
-    pub pulls: &'a [(&'a str, u64, u64)],
-    pub left: &'a [(&'a str, &'a str)],
+    pub text: &'static str,
+    pub pulls: &'static [(&'static str, u64, u64)],
+    pub left: &'static [(&'static str, &'static str)],
 }
 
+/// The pull of the plain case.
+pub const PULLED: &[(&str, u64, u64)] = &[("a.log", 0, 4)];
+
 /// Two whole lines, which are published.
-pub const PLAIN: Case<'static> = Case {
+pub const PLAIN: Case = Case {
     words: &["run", "j1"],
     parts: &[("a.log", b"x\ny\n")],
     files: &[JOB],
@@ -90,12 +98,12 @@ total branch 0 written 2 errors 0 optional 0
 runs 1
 status 0
 ",
-    pulls: &[("a.log", 0, 4)],
+    pulls: PULLED,
     left: &[TWO_LINES, STATE, JOB],
 };
 
 /// Makes the call, and holds what it answered and left against what it is to.
-pub fn check(rt: &impl Abort, alloc: Global, case: &Case<'_>) {
+pub fn check(rt: &impl Abort, alloc: Global, case: &Case) {
     let mut source = source_of(alloc, case).expect(rt, "no memory for the source");
     let mut volume = volume_of(alloc, case).expect(rt, "no memory for the volume");
     let fails = Vec::from_slice(alloc, case.fails.writes).expect(rt, "no memory for the sink");
@@ -109,7 +117,7 @@ pub fn check(rt: &impl Abort, alloc: Global, case: &Case<'_>) {
     check_files(rt, alloc, &mut volume, case.left);
 }
 
-fn source_of(alloc: Global, case: &Case<'_>) -> Option<MemSource> {
+fn source_of(alloc: Global, case: &Case) -> Option<MemSource> {
     let mut source = MemSource::new(
         alloc,
         Vec::new(alloc),
@@ -126,7 +134,7 @@ fn source_of(alloc: Global, case: &Case<'_>) -> Option<MemSource> {
     Some(source)
 }
 
-fn volume_of(alloc: Global, case: &Case<'_>) -> Option<MemVolume> {
+fn volume_of(alloc: Global, case: &Case) -> Option<MemVolume> {
     let mut volume = MemVolume::new(alloc, Vec::from_slice(alloc, case.fails.volume).ok()?);
     for (name, bytes) in case.files {
         volume.put(name, bytes.as_bytes()).ok()?;

@@ -1,33 +1,43 @@
 //! Devices that fail.
 
-use crate::tests::cases::{Case, Fails, JOB, NO_FAILS, PLAIN, STATE, TWO_LINES, check};
+use crate::tests::cases::{
+    Case, Fails, JOB, NO_FAILS, PLAIN, PUBLISHED, PULLED, STATE_NAME, TWO_LINES, check,
+};
 
-/// Two partitions of two lines each.
-const TWO_PARTS: Case<'static> = Case {
+type Calls = &'static [u64];
+
+type Files = &'static [(&'static str, &'static str)];
+
+type Pulls = &'static [(&'static str, u64, u64)];
+
+/// Two partitions of two lines each, of which nothing is written.
+const TWO_PARTS: Case = Case {
     parts: &[("a.log", b"x\ny\n"), ("b.log", b"x\ny\n")],
     left: &[JOB],
     ..PLAIN
 };
 
+/// The listings, looks and pulls that fail, and the pulls that are answered.
+const SOURCE_FAULTS: [(Calls, Calls, Calls, Pulls); 5] = [
+    (&[0], &[], &[], &[]),
+    (&[], &[0], &[], &[]),
+    (&[], &[1], &[], &[]),
+    (&[], &[], &[0], &[]),
+    (&[], &[], &[1], &[("a.log", 0, 4)]),
+];
+
 /// A source that fails ends the run, whichever call it is, and nothing is written.
 #[test]
 fn a_source_that_fails(rt: HostRuntime) {
-    let none: &[u64] = &[];
-    let rows: [(&[u64], &[u64], &[u64], &[(&str, u64, u64)]); 5] = [
-        (&[0], none, none, &[]),
-        (none, &[0], none, &[]),
-        (none, &[1], none, &[]),
-        (none, none, &[0], &[]),
-        (none, none, &[1], &[("a.log", 0, 4)]),
-    ];
-    for (lists, looks, pulls, answered) in rows {
+    for (lists, looks, pulls, answered) in SOURCE_FAULTS {
+        let fails = Fails {
+            lists,
+            looks,
+            pulls,
+            ..NO_FAILS
+        };
         let case = Case {
-            fails: Fails {
-                lists,
-                looks,
-                pulls,
-                ..NO_FAILS
-            },
+            fails,
             status: 5,
             text: "refused source-fault\nstatus 5\n",
             pulls: answered,
@@ -37,24 +47,25 @@ fn a_source_that_fails(rt: HostRuntime) {
     }
 }
 
+/// The call that fails, the pulls before it, and the files after it.
+const VOLUME_FAULTS: [(Calls, Pulls, Files); 8] = [
+    (&[0], &[], &[JOB]),
+    (&[1], &[], &[JOB]),
+    (&[2], PULLED, &[JOB]),
+    (&[3], PULLED, &[(PUBLISHED, "!"), JOB]),
+    (&[4], PULLED, &[(PUBLISHED, "!"), JOB]),
+    (&[5], PULLED, &[TWO_LINES, JOB]),
+    (&[6], PULLED, &[TWO_LINES, (STATE_NAME, "!"), JOB]),
+    (&[7], PULLED, &[TWO_LINES, (STATE_NAME, "!"), JOB]),
+];
+
 /// A volume that fails ends the run, whichever call it is. What was written before stands.
 #[test]
 fn a_volume_that_fails(rt: HostRuntime) {
-    let (published, _) = TWO_LINES;
-    let (state, _) = STATE;
-    let rows: [(&[u64], &[(&str, u64, u64)], &[(&str, &str)]); 8] = [
-        (&[0], &[], &[JOB]),
-        (&[1], &[], &[JOB]),
-        (&[2], PLAIN.pulls, &[JOB]),
-        (&[3], PLAIN.pulls, &[(published, "!"), JOB]),
-        (&[4], PLAIN.pulls, &[(published, "!"), JOB]),
-        (&[5], PLAIN.pulls, &[TWO_LINES, JOB]),
-        (&[6], PLAIN.pulls, &[TWO_LINES, (state, "!"), JOB]),
-        (&[7], PLAIN.pulls, &[TWO_LINES, (state, "!"), JOB]),
-    ];
-    for (volume, pulls, left) in rows {
+    for (volume, pulls, left) in VOLUME_FAULTS {
+        let fails = Fails { volume, ..NO_FAILS };
         let case = Case {
-            fails: Fails { volume, ..NO_FAILS },
+            fails,
             status: 6,
             text: "refused volume-fault\nstatus 6\n",
             pulls,
@@ -78,27 +89,42 @@ fn one_call_of_each_kind(rt: HostRuntime) {
     check(&rt, rt.alloc(), &Case { fails, ..PLAIN });
 }
 
-/// A sink that fails takes the place of every status here, and what the run published stands.
+/// The sink fails, and nothing is told.
+const UNTOLD: Case = Case {
+    fails: Fails {
+        writes: &[0],
+        ..NO_FAILS
+    },
+    status: 7,
+    text: "",
+    ..PLAIN
+};
+
+/// A sink that fails takes the place of a run's status, and what was published stands.
 #[test]
 fn a_sink_that_fails(rt: HostRuntime) {
-    let case = Case {
-        fails: Fails {
-            writes: &[0],
-            ..NO_FAILS
-        },
-        status: 7,
-        text: "",
-        ..PLAIN
-    };
-    check(&rt, rt.alloc(), &case);
-    for (words, files) in [(["run", "/"], PLAIN.files), (["run", "j1"], &[])] {
-        let refused = Case {
-            words: &words,
-            files,
-            pulls: &[],
-            left: files,
-            ..case
-        };
-        check(&rt, rt.alloc(), &refused);
+    check(&rt, rt.alloc(), &UNTOLD);
+}
+
+const UNTOLD_REFUSALS: [Case; 2] = [
+    Case {
+        words: &["run"],
+        pulls: &[],
+        left: &[JOB],
+        ..UNTOLD
+    },
+    Case {
+        files: &[],
+        pulls: &[],
+        left: &[],
+        ..UNTOLD
+    },
+];
+
+/// A sink that fails takes the place of a refusal's status too.
+#[test]
+fn a_sink_that_fails_a_refusal(rt: HostRuntime) {
+    for case in UNTOLD_REFUSALS {
+        check(&rt, rt.alloc(), &case);
     }
 }

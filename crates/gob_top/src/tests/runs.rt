@@ -1,6 +1,6 @@
 //! Runs that aren't refused.
 
-use crate::tests::cases::{Case, JOB, PLAIN, check};
+use crate::tests::cases::{Case, JOB, PLAIN, STATE, TWO_LINES, check};
 
 /// Two whole lines are published by one pull, with the state that says so, and all is synced.
 #[test]
@@ -153,14 +153,18 @@ fn partitions_come_in_order(rt: HostRuntime) {
     check(&rt, rt.alloc(), &case);
 }
 
+const J: (&str, &str) = ("j/state", "0");
+
+const J11: (&str, &str) = ("j11/state", "1");
+
+const NO_JOB: (&str, &str) = ("state", "2");
+
 /// Files of other jobs stay as they are, and another job's state is none of this one's.
 #[test]
 fn other_files_stay(rt: HostRuntime) {
-    let [published, state, job] = [PLAIN.left[0], PLAIN.left[1], JOB];
-    let others = [("j/state", "0"), ("j11/state", "1"), ("state", "2")];
     let case = Case {
-        files: &[others[0], others[1], others[2], job],
-        left: &[others[0], published, state, others[1], job, others[2]],
+        files: &[J, J11, NO_JOB, JOB],
+        left: &[J, TWO_LINES, STATE, J11, JOB, NO_JOB],
         ..PLAIN
     };
     check(&rt, rt.alloc(), &case);
