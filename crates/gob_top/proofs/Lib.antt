@@ -11,4 +11,5 @@ pub mod Written
 pub mod Writes
 pub mod Published
 pub mod Named
+pub mod Order
 pub mod Ran

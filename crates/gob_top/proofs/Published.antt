@@ -7,7 +7,7 @@ use Rattle.gob_plan.specs.declared.units.Unit.{Unit as WorkUnit}
 use Rattle.gob_ledger.specs.Spelling.{state_text}
 use Rattle.gob_ledger.specs.State.{State}
 use Rattle.gob_top.specs.declared.input.Input.{Input}
-use Rattle.gob_top.specs.Inputs.{after_inputs, contents_in, numbers_in, state_in, units_in, with_inputs}
+use Rattle.gob_top.specs.Inputs.{KeepsState, after_inputs, contents_in, numbers_in, state_in, units_in, with_inputs}
 use Rattle.gob_top.specs.Plain.{first_state, unit_name, with_units}
 use Rattle.gob_top.specs.Runs.{OnlyBelow}
 use Rattle.gob_top.proofs.PlainLeft.{front_under}
@@ -17,6 +17,7 @@ use Rattle.std.proofs.lemmas.Bool.Decides.{nat_tests}
 pub record Publishes (job : List ℕ) (all left : List Input) (old now : Option Disk) (before after : ℕ) : Type 0 where
   pub files : option_map (λ d. with_inputs job left d.files) now ≡ option_map (λ d. with_inputs job all d.files) old
   pub below : Along (OnlyBelow (under job [])) old now
+  pub keeps : Along (KeepsState job) old now
   pub goes_on : before ≤ after
 
 pub with-inputs-one : (job : List ℕ) (i : Input) (is : List Input) (m : Files) → with_inputs job (i ∷ is) m ≡ with_inputs job is (put m (unit_name job i.unit) (Some (clean i.bytes)))

@@ -1,5 +1,5 @@
 -- What a plain run answered, from what its steps left.
-use Rattle.std.proofs.Common.{◌≡◌, ◌⊎◌, inl, inr, ℕ, ◌^◌, ◌≤◌, Bool, true, false, cond, List, [], ◌∷◌, length, map, All, refl, sym, ap, subst, ◌∙◌, Some, None, option_map, is_some, IfSome, IsOk, MatchOption, arith, ◌&&◌}
+use Rattle.std.proofs.Common.{◌≡◌, ◌≢◌, ◌⊎◌, inl, inr, ℕ, ◌^◌, ◌≤◌, Bool, true, false, cond, List, [], ◌∷◌, length, map, All, refl, sym, ap, subst, ◌∙◌, Some, None, option_map, is_some, IfSome, IsOk, MatchOption, arith, ◌&&◌}
 use Rattle.std.specs.declared.option.Option.{Option}
 use Rattle.std.specs.declared.result.Result.TheVariants.{Ok, Err}
 use Rattle.std.specs.List.{list_all, zip}
@@ -22,7 +22,9 @@ use Rattle.gob_top.specs.declared.answer.Refusal.{Refusal}
 use Rattle.gob_top.specs.declared.answer.Refusal.TheVariants.{Usage, NoJob, NotBuilt, NotBuiltState, NotBuiltInput, SourceFault, VolumeFault, Memory}
 use Rattle.gob_top.specs.declared.input.Input.{Input}
 use Rattle.gob_top.specs.Answers.{Answer}
-use Rattle.gob_top.specs.Inputs.{after_inputs, contents_in, judged_in, numbers_in, state_in, units_in}
+use Rattle.gob_top.proofs.Order.{state_last}
+use Rattle.gob_bytes.proofs.Tables.{two_names}
+use Rattle.gob_top.specs.Inputs.{PublishedFirst, with_inputs, after_inputs, contents_in, judged_in, numbers_in, state_in, units_in}
 use Rattle.gob_top.specs.Plain.{IsWhole, StoppedByPulls, StoppedBySource, StoppedByVolume, StoppedByWriting, after_first, first_state, good_lines, line_number, plain_units, unit_bytes, unit_name, whole_pull, with_units}
 use Rattle.gob_top.specs.Runs.{Due, IsDone, IsRefused, Lasting, OnlyBelow, RunAnswered, Yields, input_refusal, is_plain_text, text_refusal, volume_refusal}
 use Rattle.gob_top.specs.World.{World}
@@ -343,6 +345,12 @@ units_last : (job : List ℕ) (ps : List (WorkUnit × List ℕ)) (m n : Files) �
 units_last job [] m n h = h
 units_last job (p ∷ ps) m n h = units_last job ps m (put n (unit_name job p.0) (Some (clean p.1))) (put_lasts m n (unit_name job p.0) p.1 h)
 
+after-inputs-other : (job : List ℕ) (inputs : List Input) (m : Files) (name : List ℕ) → name ≢ state_name job → after_inputs job inputs m name ≡ with_inputs job inputs m name
+unfolding after_inputs with_inputs
+after-inputs-other job [] m name apart = refl
+after-inputs-other job (i ∷ is) m name apart =
+    ap (λ b. cond b (Some (clean (state_text (first_state (map (λ q. q.0) (contents_in (i ∷ is))) (numbers_in (i ∷ is)))))) (with_units job (contents_in (i ∷ is)) m name)) (two_names name (state_name job) apart)
+
 inputs_last : (job : List ℕ) (inputs : List Input) (m : Files) → Lasting m (after_inputs job inputs m)
 unfolding after_inputs
 inputs_last job [] m = λ name. inl refl
@@ -350,8 +358,8 @@ inputs_last job (i ∷ is) m = put_lasts m _ _ _ (units_last job (contents_in (i
 
 -- the definitions' run, from the code's
 pub is_done : (job : List ℕ) (inputs : List Input) (report : Report) (d : Disk) (s : Supply) (e : Disk) (t : Supply) → Reported job inputs report s.held d.files
-    → e.files ≡ after_inputs job inputs d.files → t ≡ with_pulls (map whole_pull (units_in inputs)) s → IsDone job report d s e t
-is_done job inputs report d s e t r files pulled =
+    → e.files ≡ after_inputs job inputs d.files → Along (PublishedFirst job inputs) (Some d) (Some e) → t ≡ with_pulls (map whole_pull (units_in inputs)) s → IsDone job report d s e t
+is_done job inputs report d s e t r files order pulled =
     let plain = plain_all job inputs report s.held d.files r in
     let numbers = numbers_held job inputs report s.held d.files r in
     let verdicts = verdicts-plain job s.held r.listed plain in
@@ -359,6 +367,7 @@ is_done job inputs report d s e t r files pulled =
       left = subst (λ m. RunLeft (plain_job job) s.held d.files None [] m)
           (sym (files ∙ (after-inputs-first job inputs d.files (r.lines ∙ numbered_lines inputs) ∙ (λ k. after_first job (r.units k) ((r.bytes ∙ ap (map (unit_bytes s.held)) r.units) k) d.files))))
           (left-plain job s.held d.files r.listed plain r.few (subst (λ us. All (λ u. IsUtf8 u.part) us) r.units r.texts) (no_state job d.files r.none));
+      order = state_last job inputs d e (λ name apart. ap (λ (m : Files). m name) files ∙ after-inputs-other job inputs d.files name apart) order;
       lasting = subst (λ m. Lasting d.files m) (sym files) (inputs_last job inputs d.files);
       text = r.text ∙ (ap (λ js. report_of job Full [] js (state_in inputs)) (judged_zip inputs ∙ (λ k. zip (r.units k) ((ap (map good_lines) numbers ∙ sym verdicts) k)))
           ∙ ap (λ st. report_of job Full [] (zip (plain_units s.held) (run_verdicts (plain_job job) s.held [] None)) st) (state_same job inputs report s.held d.files r plain numbers));
@@ -388,9 +397,9 @@ pub reported : (job : List ℕ) (inputs : List Input) (report : Report) (units :
     → IfSome supply (λ s. map (λ i. i.bytes) inputs ≡ map (unit_bytes s.held) units) → list_all (λ i. is_plain_text i.bytes) inputs ≡ true
     → numbers_in inputs ≡ map (λ i. line_number i.bytes) inputs → report.text ≡ report_of job Full [] (judged_in inputs) (state_in inputs) → report.status ≡ 0
     → supply' ≡ option_map (with_pulls (map whole_pull units)) supply → option_map (λ e. e.files) disk' ≡ option_map (λ d. after_inputs job inputs d.files) disk
-    → Along (OnlyBelow (under job [])) disk disk' → sf ≤ sf' → pf ≤ pf' → vf ≤ vf'
+    → Along (PublishedFirst job inputs) disk disk' → Along (OnlyBelow (under job [])) disk disk' → sf ≤ sf' → pf ≤ pf' → vf ≤ vf'
     → RunAnswered job (world supply sf pf disk vf) (world supply' sf' pf' disk' vf') (Ok report)
-reported job inputs report units supply supply' disk disk' sf sf' pf pf' vf vf' listed few none cut of_units texts bytes plain lines text status pulls files below sle ple vle = record {
+reported job inputs report units supply supply' disk disk' sf sf' pf pf' vf vf' listed few none cut of_units texts bytes plain lines text status pulls files order below sle ple vle = record {
   caused = λ d s is_d is_s.
       let held = s.held in
       let e = some_disk disk' (after_inputs job inputs d.files) (files ∙ ap (option_map (λ d. after_inputs job inputs d.files)) is_d) in
@@ -410,7 +419,7 @@ reported job inputs report units supply supply' disk disk' sf sf' pf pf' vf vf' 
           lines = lines;
           text = text;
           status = status;
-        }) e.2 (ap (λ us. with_pulls (map whole_pull us) s) (sym of_units)),
+        }) e.2 (subst (λ (o : Option Disk). Along (PublishedFirst job inputs) o (Some e.0)) is_d (subst (λ (o : Option Disk). Along (PublishedFirst job inputs) disk o) e.1 order)) (ap (λ us. with_pulls (map whole_pull us) s) (sym of_units)),
       );
   due = due_by_input job (world supply sf pf disk vf) (Ok report) none (due_report job inputs report units supply cut of_units bytes plain);
   held = ap (option_map (λ t. t.held)) pulls ∙ same_held supply;

@@ -1,5 +1,6 @@
 -- What a run has read, by unit.
-use Rattle.std.specs.Prelude.{ℕ, List, map}
+use Rattle.std.specs.Prelude.{◌≡◌, ◌≢◌, ◌⊎◌, ℕ, List, map}
+use Rattle.gob_bytes.specs.Paths.{state_name}
 use Rattle.gob_plan.specs.declared.units.Unit.{Unit as WorkUnit}
 use Rattle.gob_device.specs.Disk.{Files}
 use Rattle.gob_ledger.specs.Next.{Judged}
@@ -31,3 +32,11 @@ with_inputs job inputs m = with_units job (contents_in inputs) m
 
 unfoldable pub after_inputs : List ℕ → List Input → Files → Files
 after_inputs job inputs m = after_writing job (contents_in inputs) (numbers_in inputs) m
+
+-- the state stays
+abbrev pub KeepsState : List ℕ → Files → Files → Type 0
+KeepsState job m n = n (state_name job) ≡ m (state_name job)
+
+-- the state stays, or all else is published
+abbrev pub PublishedFirst : List ℕ → List Input → Files → Files → Type 0
+PublishedFirst job inputs m n = KeepsState job m n ⊎ ((name : List ℕ) → name ≢ state_name job → n name ≡ with_inputs job inputs m name)

@@ -1,5 +1,5 @@
 -- What `run JOB` answers, exactly where, and what it leaves.
-use Rattle.std.specs.Prelude.{◌≡◌, ◌⊎◌, ℕ, Bool, false, cond, not, ◌&&◌, List, [], is_some, IsOk, IfSome, MatchOption, option_map}
+use Rattle.std.specs.Prelude.{◌≡◌, ◌≢◌, ◌⊎◌, ℕ, Bool, false, cond, not, ◌&&◌, List, [], is_some, IsOk, IfSome, MatchOption, option_map}
 use Rattle.std.specs.declared.option.Option.{Option}
 use Rattle.std.specs.declared.option.Option.TheVariants.{None, Some}
 use Rattle.std.specs.declared.result.Result.TheVariants.{Ok, Err}
@@ -53,10 +53,15 @@ input_refusal job held = cond (list_all (λ u. is_plain_text (bytes_in held u.pa
 abbrev pub Lasting : Files → Files → Type 0
 Lasting m n = (name : List ℕ) → (n name ≡ m name) ⊎ ((bytes : List ℕ) × (n name ≡ Some (clean bytes)))
 
+-- the state comes last: on the way each map has the state that was there, or every other file as the run leaves it
+abbrev pub StateLast : List ℕ → Files → Files → Files → Type 0
+StateLast job end m n = (n (state_name job) ≡ m (state_name job)) ⊎ ((name : List ℕ) → name ≢ state_name job → n name ≡ end name)
+
 -- the report is of these units, their verdicts and the state that the volume now stores; one pull was made of each unit, in their order
 pub record IsDone (job : List ℕ) (report : Report) (d : Disk) (s : Supply) (e : Disk) (t : Supply) : Type 0 where
   pub left : RunLeft (plain_job job) s.held d.files None [] e.files
   pub lasting : Lasting d.files e.files
+  pub order : Along (StateLast job e.files) (Some d) (Some e)
   pub text : report.text ≡ report_of job (plain_job job).policy [] (zip (run_units (plain_job job) s.held None) (run_verdicts (plain_job job) s.held [] None))
       (state_or_empty (plain_job job) (state_after (plain_job job) s.held [] None))
   pub status : report.status ≡ run_status (run_verdicts (plain_job job) s.held [] None)

@@ -3,7 +3,7 @@ ghost use Rattle.std.specs.Prelude.{◌≡◌, ◌≤◌, ◌++◌, [], Some, op
 ghost use Rattle.std.specs.Str.{IsUtf8};
 ghost use Rattle.gob_bytes.specs.Paths.{under};
 ghost use Rattle.gob_device.specs.Disk.{Along, OnlyAt, clean, put};
-ghost use Rattle.gob_top.specs.Inputs.{after_inputs, with_inputs};
+ghost use Rattle.gob_top.specs.Inputs.{KeepsState, PublishedFirst, after_inputs, with_inputs};
 ghost use Rattle.gob_top.specs.Plain.{StoppedByWriting, unit_name};
 ghost use Rattle.gob_top.specs.Runs.{OnlyBelow};
 
@@ -25,6 +25,7 @@ pub fn publish<V: Volume>(
 ) -> Result<(), Refusal>
     ensures ok { OnOk result (option_map (λ e. e.files) (V.disk volume.new) ≡ option_map (λ d. after_inputs job.now inputs.now d.files) (V.disk volume.old)) }
     ensures below { Along (OnlyBelow (under job.now [])) (V.disk volume.old) (V.disk volume.new) }
+    ensures order { OnOk result (Along (PublishedFirst job.now inputs.now) (V.disk volume.old) (V.disk volume.new)) }
     ensures err { IfErr result (StoppedByWriting (V.faults volume.old) (V.faults volume.new)) }
     ensures goes_on { V.faults volume.old ≤ V.faults volume.new }
 {
@@ -47,6 +48,7 @@ fn publish_units<V: Volume>(
 ) -> Result<(), Refusal>
     ensures ok { OnOk result (option_map (λ e. e.files) (V.disk volume.new) ≡ option_map (λ d. with_inputs job.now inputs.now d.files) (V.disk volume.old)) }
     ensures below { Along (OnlyBelow (under job.now [])) (V.disk volume.old) (V.disk volume.new) }
+    ensures keeps { Along (KeepsState job.now) (V.disk volume.old) (V.disk volume.new) }
     ensures err { IfErr result (StoppedByWriting (V.faults volume.old) (V.faults volume.new)) }
     ensures goes_on { V.faults volume.old ≤ V.faults volume.new }
 {
@@ -64,6 +66,7 @@ fn publish_unit<V: Volume>(
 ) -> Result<(), Refusal>
     ensures ok { OnOk result (option_map (λ e. e.files) (V.disk volume.new) ≡ option_map (λ d. put d.files (unit_name job.now input.now.unit) (Some (clean input.now.bytes))) (V.disk volume.old)) }
     ensures below { Along (OnlyBelow (under job.now [])) (V.disk volume.old) (V.disk volume.new) }
+    ensures keeps { Along (KeepsState job.now) (V.disk volume.old) (V.disk volume.new) }
     ensures err { IfErr result (StoppedByWriting (V.faults volume.old) (V.faults volume.new)) }
     ensures goes_on { V.faults volume.old ≤ V.faults volume.new }
 {

@@ -1,9 +1,10 @@
-use Rattle.std.proofs.Common.{◌≡◌, [], ap, sym, ◌∙◌, option_map, Some}
+use Rattle.std.proofs.Common.{◌≡◌, inl, refl, subst, [], ap, sym, ◌∙◌, option_map, Some}
 use Rattle.gob_bytes.specs.Paths.{begins_with, state_name, under}
-use Rattle.gob_device.specs.Disk.{Files, clean, put}
+use Rattle.gob_device.specs.Disk.{Along, Files, OnlyAt, clean, put}
 use Rattle.gob_device.proofs.Trail.{along_nothing, along_then}
 use Rattle.gob_ledger.specs.Spelling.{state_text}
-use Rattle.gob_top.specs.Inputs.{after_inputs, state_in, with_inputs}
+use Rattle.gob_top.specs.Inputs.{PublishedFirst, after_inputs, state_in, with_inputs}
+use Rattle.gob_top.proofs.Order.{published_first}
 use Rattle.gob_top.specs.Runs.{OnlyBelow}
 use Rattle.gob_top.proofs.Published.{after-inputs-none, after-inputs-some, each_file, not_none, state_below}
 use Rattle.gob_top.proofs.Writes.{below_at, below_same, below_then, files_then}
@@ -42,3 +43,16 @@ returns-clause-below g c =
     let folder = under c.args.job.now [] in
     along_then (OnlyBelow folder) _ _ _ (below_then folder) c.publish_units.ensures.below
     (below_at folder _ _ _ (ap (begins_with folder) (c.as_str.ensures ∙ c.in-Ok.ensures) ∙ state_below c.args.job.now) c.write_file.ensures.only)
+
+pub returns-then-is_empty-clause-order : goal.returns-then-is_empty-clause-order
+returns-then-is_empty-clause-order g c = along_nothing (PublishedFirst c.args.job.now c.args.inputs.now) (λ m. inl refl) _
+
+pub returns-clause-order : goal.returns-clause-order
+returns-clause-order g c =
+    let job = c.args.job.now in
+    let is = c.args.inputs.now in
+    let old = g.V.Volume.disk c.args.volume.now in
+    let mid = g.V.Volume.disk c.publish_units.new.volume in
+    let new = g.V.Volume.disk c.write_file.new.volume in
+    let only : Along (OnlyAt (state_name job)) mid new = subst (λ name. Along (OnlyAt name) mid new) (c.as_str.ensures ∙ c.in-Ok.ensures) c.write_file.ensures.only in
+    on_ok _ (λ e. published_first job is old mid new c.in_ok-publish_units.ensures.ok c.publish_units.ensures.keeps only) c.write_file.ensures.ok

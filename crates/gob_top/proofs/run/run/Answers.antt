@@ -8,7 +8,7 @@ use Rattle.gob_plan.specs.declared.units.Unit.{Unit as WorkUnit}
 use Rattle.gob_top.specs.declared.input.Input.{Input}
 use Rattle.gob_plan.specs.declared.plan.CommitPolicy.TheVariants.{Full}
 use Rattle.gob_texts.specs.Report.{report_of}
-use Rattle.gob_top.specs.Inputs.{after_inputs, judged_in, state_in}
+use Rattle.gob_top.specs.Inputs.{PublishedFirst, after_inputs, judged_in, state_in}
 use Rattle.gob_top.specs.Plain.{IsWhole, plain_units, unit_bytes, whole_pull}
 use Rattle.gob_top.specs.Runs.{OnlyBelow}
 use Rattle.gob_top.proofs.Ran.{reported, same_disk, stopped_by_pulls, stopped_by_source, stopped_by_volume, stopped_by_writing, whole_inputs}
@@ -73,5 +73,7 @@ returns g c =
     refl
     (i.pulls ∙ ((λ k. option_map (with_pulls (map whole_pull (c.as_slice.ensures.value k))) (u.supply k))))
     (p.ok ∙ (λ k. option_map (λ d. after_inputs job (c.as_slice-3.ensures.value k) d.files) (v.disk k)))
+    (subst (λ (o : Option Disk). Along (PublishedFirst job inputs) o (g.V.Volume.disk c.publish.new.volume)) v.disk
+    (subst (λ (is : List Input). Along (PublishedFirst job is) (g.V.Volume.disk c.check_volume.new.volume) (g.V.Volume.disk c.publish.new.volume)) c.as_slice-3.ensures.value p.order))
     (subst (λ (o : Option Disk). Along (OnlyBelow (under job [])) o (g.V.Volume.disk c.publish.new.volume)) v.disk p.below)
     (omega (arith, u.goes_on, i.goes_on)) (omega (arith, u.planned, i.planned)) (omega (arith, v.goes_on, p.goes_on))
