@@ -1,16 +1,21 @@
 -- What is written of a number or a name has one form.
-use Rattle.std.proofs.Common.{◌≡◌, ℕ, zero, suc, ◌-◌, ◌/◌, ◌^◌, ◌<◌, ◌≤◌, true, false, nat_le, ◌&&◌, List, [], ◌∷◌, ◌++◌, length, get_or, Some, refl, sym, ap, ◌∙◌, subst, ltb, arith, IsUtf8, ⊎_elim, length-append}
+use Rattle.std.proofs.Common.{◌≡◌, ℕ, zero, suc, ◌-◌, ◌/◌, ◌^◌, ◌<◌, ◌≤◌, true, false, nat_le, ◌&&◌, List, [], ◌∷◌}
+use Rattle.std.proofs.Common.{◌++◌, length, get_or, Some, refl, sym, ap, ◌∙◌, subst, ltb, arith, IsUtf8, ⊎_elim}
+use Rattle.std.proofs.Common.{length-append}
 use Rattle.std.specs.Fmt.{decimal}
 use Rattle.std.specs.Str.{all_ascii_digits}
 use Rattle.std.specs.Str.Parse.{digits_value}
-use Rattle.std.proofs.lemmas.Bool.{cases_eq, cond_both, ltb-true, cond-true, cond-false, both_ways, and_parts, and_from, leb-true, le-leb, eqb-false, ne_eqb, true≢false}
+use Rattle.std.proofs.lemmas.Bool.{cases_eq, cond_both, ltb-true, cond-true, cond-false, both_ways, and_parts, and_from}
+use Rattle.std.proofs.lemmas.Bool.{leb-true, le-leb, eqb-false, ne_eqb, true≢false}
 use Rattle.std.proofs.lemmas.List.Elements.{All-head, All-tail, All-nil, All-append, All-from_recursion}
 use Rattle.std.specs.List.{AllByRecursion}
 use lib.Utf8.{scalar, scalars, encode, encodes, scalar_cases}
 use Rattle.std.proofs.lemmas.Str.Parse.{IsNumeralModel, numerals_by_value, tells_all_ascii_digits}
-use Rattle.std.proofs.lemmas.Fmt.{decimal-digits_value, digits_decimal, digits_value-decimal, decimal_nonempty, first_decimal, decimal_digit}
+use Rattle.std.proofs.lemmas.Fmt.{decimal-digits_value, digits_decimal, digits_value-decimal, decimal_nonempty}
+use Rattle.std.proofs.lemmas.Fmt.{first_decimal, decimal_digit}
 use Rattle.percent_encoding.specs.Percent.{percent_encode_byte, percent_decode}
-use Rattle.percent_encoding.proofs.PercentLemmas.{percent_decode-nil, percent_decode-percent_encode_byte, percent_decode_not_percent, IsByte}
+use Rattle.percent_encoding.proofs.PercentLemmas.{percent_decode-nil, percent_decode-percent_encode_byte}
+use Rattle.percent_encoding.proofs.PercentLemmas.{percent_decode_not_percent, IsByte}
 use Rattle.gob_bytes.specs.Digits.{padded, offset, OffsetsHaveOneForm}
 use Rattle.gob_bytes.specs.Numbers.{is_digits, read_up_to, has_spare_zero, number_read, NumbersHaveOneForm}
 use Rattle.gob_bytes.specs.Escapes.{is_plain, escaped, AreBytes, EscapesTellNamesApart}
@@ -46,13 +51,17 @@ decimal_not_spare n small =
     (cases_eq n 0)
 
 -- a number that is read is what its digits write, within the bound
-pub read_up_to_some : (most : ℕ) (bs : List ℕ) (n : ℕ) → read_up_to most bs ≡ Some n → (is_digits bs ≡ true) × (digits_value 10 bs ≡ n) × (n ≤ most)
+pub read_up_to_some : (most : ℕ) (bs : List ℕ) (n : ℕ) → read_up_to most bs ≡ Some n →
+    (is_digits bs ≡ true) × (digits_value 10 bs ≡ n) × (n ≤ most)
 read_up_to_some most bs n =
-    cond_both (is_digits bs && nat_le (digits_value 10 bs) most) _ _ (λ o. o ≡ Some n → (is_digits bs ≡ true) × (digits_value 10 bs ≡ n) × (n ≤ most))
-    (λ t h. let parts = and_parts (is_digits bs) _ t in let same : digits_value 10 bs ≡ n = cc in let small = leb-true _ _ parts.1 in (parts.0, same, omega arith))
+    cond_both (is_digits bs && nat_le (digits_value 10 bs) most) _ _
+    (λ o. o ≡ Some n → (is_digits bs ≡ true) × (digits_value 10 bs ≡ n) × (n ≤ most))
+    (λ t h. let parts = and_parts (is_digits bs) _ t in let same : digits_value 10 bs ≡ n = cc in let small =
+    leb-true _ _ parts.1 in (parts.0, same, omega arith))
     (λ _ h. (cc, cc, cc))
 
-pub read_up_to_from : (most : ℕ) (bs : List ℕ) → is_digits bs ≡ true → digits_value 10 bs ≤ most → read_up_to most bs ≡ Some (digits_value 10 bs)
+pub read_up_to_from : (most : ℕ) (bs : List ℕ) → is_digits bs ≡ true → digits_value 10 bs ≤ most →
+    read_up_to most bs ≡ Some (digits_value 10 bs)
 read_up_to_from most bs digits small = cond-true _ _ _ (and_from _ _ digits (le-leb _ _ small))
 
 pub one_form : NumbersHaveOneForm
@@ -63,13 +72,15 @@ one_form bs n = (
       (λ no h.
       let parts = read_up_to_some (2 ^ 64 - 1) bs n h in
       let digits = is_digits_parts bs parts.0 in
-      let written = decimal-digits_value own bs digits.0 digits.1 (λ zero'. no_spare_zero bs no zero' digits.1) (omega arith) in
+      let written = decimal-digits_value own bs digits.0 digits.1 (λ zero'. no_spare_zero bs no zero' digits.1)
+      (omega arith) in
       (sym written ∙ ap decimal parts.1, omega arith)),
   (λ h.
       let text = digits_decimal own n h.1 in
       let value = digits_value-decimal own n h.1 in
       let no = decimal_not_spare n h.1 in
-      let read = read_up_to_from (2 ^ 64 - 1) (decimal n) (is_digits_from _ text (decimal_nonempty n h.1)) (omega arith) in
+      let read = read_up_to_from (2 ^ 64 - 1) (decimal n) (is_digits_from _ text (decimal_nonempty n h.1))
+      (omega arith) in
       rw h.0 (cond-false _ _ _ no ∙ read ∙ ap Some value)),
 )
 
@@ -135,7 +146,8 @@ all_encoded_bytes : (cs : List ℕ) → scalars cs ≡ true → AreBytes (encode
 all_encoded_bytes [] valid = All-nil IsByte
 all_encoded_bytes (c ∷ cs) valid =
     let parts = and_parts (scalar c) (scalars cs) valid in
-    All-append IsByte (encode c) (encodes cs) (All-from_recursion IsByte (encode c) (encoded_bytes c parts.0)) (all_encoded_bytes cs parts.1)
+    All-append IsByte (encode c) (encodes cs) (All-from_recursion IsByte (encode c) (encoded_bytes c parts.0))
+    (all_encoded_bytes cs parts.1)
 
 pub bytes_from_utf8 : (bs : List ℕ) → IsUtf8 bs → AreBytes bs
 bytes_from_utf8 bs h = subst AreBytes h.1.1 (all_encoded_bytes h.0 h.1.0)

@@ -12,4 +12,5 @@ offset n = padded 20 n
 
 -- an offset has twenty digits, and two offsets below 10^20 that are written alike are one
 abbrev pub OffsetsHaveOneForm : Type 0
-OffsetsHaveOneForm = ((n : ℕ) → length (offset n) ≡ 20) × ((m n : ℕ) → m < 10 ^ 20 → n < 10 ^ 20 → offset m ≡ offset n → m ≡ n)
+OffsetsHaveOneForm = ((n : ℕ) → length (offset n) ≡ 20)
+    × ((m n : ℕ) → m < 10 ^ 20 → n < 10 ^ 20 → offset m ≡ offset n → m ≡ n)

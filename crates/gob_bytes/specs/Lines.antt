@@ -1,8 +1,8 @@
 -- The lines of a text. Each ends at a line feed; what stands after the last line feed belongs to no line.
-use Rattle.std.specs.Prelude.{◌≡◌, ℕ, ◌+◌, ◌≤◌, Bool, false, cond, nat_eq, List, [], ◌∷◌, ◌++◌, map, length, All}
+use Rattle.std.specs.Prelude.{◌≡◌, ℕ, ◌+◌, ◌≤◌, Bool, true, false, cond, not, nat_eq, List, [], ◌∷◌, ◌++◌, map, length, All}
 use Rattle.std.specs.declared.option.Option.{Option}
 use Rattle.std.specs.declared.option.Option.TheVariants.{None}
-use Rattle.std.specs.List.{flat_map, slice_get, last_or}
+use Rattle.std.specs.List.{flat_map, list_all, slice_get, last_or}
 use Rattle.std.specs.List.Sorted.{IsStrictlyIncreasing}
 
 -- where a line starts, and its bytes before its line feed
@@ -27,7 +27,9 @@ text_of l = without_cr l.body
 -- the lines of a text whose first line began at start with the bytes begun
 unfoldable pub lines_from : ℕ → List ℕ → List ℕ → List Line
 lines_from start begun [] = []
-lines_from start begun (b ∷ bs) = cond (nat_eq b 10) (record { start = start; body = begun } ∷ lines_from (start + length begun + 1) [] bs) (lines_from start (begun ++ b ∷ []) bs)
+lines_from start begun (b ∷ bs) = cond (nat_eq b 10)
+    (record { start = start; body = begun } ∷ lines_from (start + length begun + 1) [] bs)
+    (lines_from start (begun ++ b ∷ []) bs)
 
 abbrev pub lines : List ℕ → List Line
 lines bytes = lines_from 0 [] bytes
@@ -43,7 +45,8 @@ rest bytes = rest_from [] bytes
 -- where that rest starts
 unfoldable pub start_from : ℕ → List ℕ → List ℕ → ℕ
 start_from start begun [] = start
-start_from start begun (b ∷ bs) = cond (nat_eq b 10) (start_from (start + length begun + 1) [] bs) (start_from start (begun ++ b ∷ []) bs)
+start_from start begun (b ∷ bs) = cond (nat_eq b 10) (start_from (start + length begun + 1) [] bs)
+    (start_from start (begun ++ b ∷ []) bs)
 
 -- the offset after a line's end
 abbrev pub end_of : Line → ℕ
@@ -72,9 +75,27 @@ pub record LinesJoin (x y : List ℕ) : Type 0 where
   pub lines : lines_from 0 [] (x ++ y) ≡ lines_from 0 [] x ++ lines_from (start_from 0 [] x) (rest_from [] x) y
   pub rest : rest_from [] (x ++ y) ≡ rest_from (rest_from [] x) y
 
--- the ends of a text's lines rise and lie within it, and its lines and its rest are the whole text
+-- no byte of these is a line feed
+abbrev pub has_no_feed : List ℕ → Bool
+has_no_feed bytes = list_all (λ b. not (nat_eq b 10)) bytes
+
+-- the first of the lines starts here, and each other one where the one before it ends
+abbrev pub StandInARowFrom : ℕ → List Line → Type 0
+StandInARowFrom place [] = Unit {0}
+StandInARowFrom place (l ∷ ls) = (l.start ≡ place) × StandInARowFrom (end_of l) ls
+
+-- the ends of a text's lines rise and lie within it, no line holds a line feed, the lines stand one behind the other, and
+-- with the rest they are the whole text
 pub record LinesFill (bytes : List ℕ) : Type 0 where
   pub rising : IsStrictlyIncreasing (line_ends bytes)
   pub within : All (λ e. e ≤ length bytes) (line_ends bytes)
+  pub bodies : list_all (λ l. has_no_feed l.body) (lines bytes) ≡ true
+  pub in_a_row : StandInARowFrom 0 (lines bytes)
   pub start : start_from 0 [] bytes + length (rest bytes) ≡ length bytes
   pub whole : flat_map raw_of (lines bytes) ++ rest bytes ≡ bytes
+
+-- where lines end is told by where line feeds stand: what shows the line feeds of a text shows its line ends
+abbrev pub LineEndsAreTold : Type 0
+LineEndsAreTold =
+    (shown : ℕ → ℕ) → ((b : ℕ) → nat_eq (shown b) 10 ≡ nat_eq b 10) →
+    (bytes : List ℕ) → line_ends (map shown bytes) ≡ line_ends bytes

@@ -18,7 +18,8 @@ begins_as_job (b ∷ bs) = is_lower_or_digit b
 
 -- 1 to 64 such bytes, of which the first is a letter or a digit; `jobs` is the folder of job files
 unfoldable pub is_job_name : List ℕ → Bool
-is_job_name name = begins_as_job name && nat_le (length name) 64 && list_all is_job_byte name && not (bytes_eq name (codes "jobs"))
+is_job_name name = begins_as_job name && nat_le (length name) 64 && list_all is_job_byte name && not
+    (bytes_eq name (codes "jobs"))
 
 -- 1 to 64 letters, digits, '.', '_' and '-'
 unfoldable pub is_column_name : List ℕ → Bool

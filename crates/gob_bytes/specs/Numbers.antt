@@ -1,5 +1,6 @@
 -- Numbers as they are read.
-use Rattle.std.specs.Prelude.{◌≡◌, ℕ, ◌-◌, ◌^◌, ◌<◌, ◌↔◌, Bool, false, cond, ◌&&◌, nat_eq, nat_le, List, [], ◌∷◌, ℤ, pos, neg_ℤ}
+use Rattle.std.specs.Prelude.{◌≡◌, ℕ, ◌-◌, ◌^◌, ◌<◌, ◌↔◌, Bool, false, cond, ◌&&◌, nat_eq, nat_le, List, [], ◌∷◌, ℤ}
+use Rattle.std.specs.Prelude.{pos, neg_ℤ}
 use Rattle.std.specs.declared.option.Option.{Option}
 use Rattle.std.specs.declared.option.Option.TheVariants.{None, Some}
 use Rattle.std.specs.Option.{option_map}
@@ -29,7 +30,8 @@ number_read bs = cond (has_spare_zero bs) None (read_up_to (2 ^ 64 - 1) bs)
 -- an integer from -2^63 to 2^63 - 1: `-` or nothing, and one or more digits, among them zeros in front
 unfoldable pub integer_read : List ℕ → Option ℤ
 integer_read [] = None
-integer_read (b ∷ bs) = cond (nat_eq b 45) (option_map (λ n. neg_ℤ (pos n)) (read_up_to (2 ^ 63) bs)) (option_map pos (read_up_to (2 ^ 63 - 1) (b ∷ bs)))
+integer_read (b ∷ bs) = cond (nat_eq b 45) (option_map (λ n. neg_ℤ (pos n)) (read_up_to (2 ^ 63) bs))
+    (option_map pos (read_up_to (2 ^ 63 - 1) (b ∷ bs)))
 
 -- a number is read from what `decimal` writes of it, and from no other text
 abbrev pub NumbersHaveOneForm : Type 0

@@ -34,7 +34,7 @@ abbrev pub names_of : {X : Type 0} → Table X → List (List ℕ)
 names_of es = map (λ e. e.0) es
 
 -- names in byte order, each once
-abbrev pub Rising : List (List ℕ) → Type 0
-Rising [] = Unit {0}
-Rising (x ∷ []) = Unit {0}
-Rising (x ∷ y ∷ ys) = (name_cmp x y ≡ Less) × Rising (y ∷ ys)
+abbrev pub IsInByteOrder : List (List ℕ) → Type 0
+IsInByteOrder [] = Unit {0}
+IsInByteOrder (x ∷ []) = Unit {0}
+IsInByteOrder (x ∷ y ∷ ys) = (name_cmp x y ≡ Less) × IsInByteOrder (y ∷ ys)

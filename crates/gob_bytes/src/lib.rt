@@ -6,7 +6,7 @@ ghost use Rattle.std.specs.Prelude.{ℕ, List};
 ghost use Rattle.gob_bytes.specs.Digits.{OffsetsHaveOneForm};
 ghost use Rattle.gob_bytes.specs.Numbers.{NumbersHaveOneForm};
 ghost use Rattle.gob_bytes.specs.Escapes.{EscapesTellNamesApart};
-ghost use Rattle.gob_bytes.specs.Lines.{LinesJoin, LinesFill};
+ghost use Rattle.gob_bytes.specs.Lines.{LinesJoin, LinesFill, LineEndsAreTold};
 
 /// A number has one spelling that is read.
 pub fn numbers_have_one_form()
@@ -31,4 +31,9 @@ pub fn lines_join()
 /// The lines of a text stand one after the other, and with its rest they are the whole text.
 pub fn lines_fill()
     ensures { (bytes : List ℕ) → LinesFill bytes }
+{}
+
+/// Whoever sees where the line feeds of a text stand sees where its lines end.
+pub fn line_ends_are_told()
+    ensures { LineEndsAreTold }
 {}

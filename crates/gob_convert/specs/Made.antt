@@ -7,15 +7,15 @@ abbrev pub Made : Type 0 → Type 0
 Made A = Option (List A)
 
 -- one list after the other, and Bad if either is
-abbrev pub joined : {A : Type 0} → Made A → Made A → Made A
-joined None ys = None
-joined (Some xs) None = None
-joined (Some xs) (Some ys) = Some (xs ++ ys)
+abbrev pub concatenation : {A : Type 0} → Made A → Made A → Made A
+concatenation None ys = None
+concatenation (Some xs) None = None
+concatenation (Some xs) (Some ys) = Some (xs ++ ys)
 
 -- what is made of each record of a list, joined in order, and Bad if any part is
 abbrev pub made_each : {A B : Type 0} → (A → Made B) → List A → Made B
 made_each f [] = Some []
-made_each f (x ∷ xs) = joined (f x) (made_each f xs)
+made_each f (x ∷ xs) = concatenation (f x) (made_each f xs)
 
 -- what is made of each record that was made before, and Bad if that was
 abbrev pub then_each : {A B : Type 0} → (A → Made B) → Made A → Made B
@@ -38,6 +38,6 @@ shape_through out_shape shape [] = shape
 shape_through out_shape shape (c ∷ cs) = shape_through out_shape (out_shape c) cs
 
 -- the first converter takes this shape, and each next one the shape that the one before gives
-abbrev pub Follow : {C S : Type 0} → (C → S) → (C → S) → S → List C → Type 0
-Follow shape_of out_shape shape [] = Unit {0}
-Follow shape_of out_shape shape (c ∷ cs) = (shape_of c ≡ shape) × Follow shape_of out_shape (out_shape c) cs
+abbrev pub FitTogether : {C S : Type 0} → (C → S) → (C → S) → S → List C → Type 0
+FitTogether shape_of out_shape shape [] = Unit {0}
+FitTogether shape_of out_shape shape (c ∷ cs) = (shape_of c ≡ shape) × FitTogether shape_of out_shape (out_shape c) cs

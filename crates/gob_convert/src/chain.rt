@@ -21,7 +21,8 @@ impl<A: Convert, B: Convert<Shape = A::OutShape, Rec = A::Out>> Chain<A, B> {
         requires fit { (x : A.Out) → A.out_fits (A.out_shape first) x ≡ true → B.fits (B.shape second) x ≡ true }
         ensures input { ⟦<Chain<A, B> as Convert>⟧.shape result ≡ A.shape first }
         ensures output { ⟦<Chain<A, B> as Convert>⟧.out_shape result ≡ B.out_shape second }
-        ensures made { (x : A.Rec) → ⟦<Chain<A, B> as Convert>⟧.made result x ≡ then_each (B.made second) (A.made first x) }
+        ensures made { (x : A.Rec) →
+            ⟦<Chain<A, B> as Convert>⟧.made result x ≡ then_each (B.made second) (A.made first x) }
     {
         Chain { first, second }
     }
@@ -59,5 +60,7 @@ impl<A: Convert, B: Convert<Shape = A::OutShape, Rec = A::Out>> Convert for Chai
         convert_each(&self.second, alloc, between)
     }
 
-    ghost keeps = { λ c x fit. all_made-then_each (A.out_fits (A.out_shape c.first)) (B.out_fits (B.out_shape c.second)) (B.made c.second) (λ y fits_between. B.keeps c.second y (c.fit y fits_between)) (A.made c.first x) (A.keeps c.first x fit) };
+    ghost keeps = { λ c x fit. all_made-then_each
+        (A.out_fits (A.out_shape c.first)) (B.out_fits (B.out_shape c.second)) (B.made c.second)
+        (λ y fits_between. B.keeps c.second y (c.fit y fits_between)) (A.made c.first x) (A.keeps c.first x fit) };
 }

@@ -3,6 +3,7 @@ ghost use Rattle.std.specs.Prelude.{◌≡◌, Bool, true, None, Some, ◌++◌,
 ghost use Rattle.std.specs.List.{list_all};
 ghost use Rattle.gob_convert.specs.Made.{Made, made_each, all_made};
 
+use gob_plan::NoMemory;
 use std::alloc::{AllocError, AllocFailed, Global};
 use thiserror::Error;
 
@@ -13,6 +14,16 @@ pub enum ConvertFault {
     Bad,
     #[error("out of memory")]
     Memory,
+}
+
+impl From<NoMemory> for ConvertFault {
+    ghost use Rattle.gob_convert.specs.declared.convert.ConvertFault.{ConvertFault};
+
+    ghost from_gives = { λ _ e. e ≡ ConvertFault.Memory };
+
+    fn from(_e: NoMemory) -> ConvertFault {
+        ConvertFault::Memory
+    }
 }
 
 impl From<AllocError> for ConvertFault {
@@ -72,7 +83,8 @@ pub trait Convert {
         ensures bad { IfErr result (λ e. e ≡ ConvertFault.Bad → made self.now rec ≡ None) };
 
     // every record made fits the output
-    ghost keeps: { (c : Self) (x : Self.Rec) → fits (shape c) x ≡ true → all_made (out_fits (out_shape c)) (made c x) ≡ true };
+    ghost keeps: { (c : Self) (x : Self.Rec) → fits (shape c) x ≡ true →
+        all_made (out_fits (out_shape c)) (made c x) ≡ true };
 }
 
 // Converts each record of a list. The first list that isn't empty takes the others in, so nothing is copied where one

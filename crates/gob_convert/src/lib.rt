@@ -11,6 +11,3 @@ pub use chain::Chain;
 pub use convert::{Convert, ConvertFault};
 pub use many::Many;
 pub use placer::Placer;
-
-#[cfg(test)]
-mod tests;

@@ -2,7 +2,7 @@
 ghost use Rattle.std.specs.Prelude.{◌≡◌, ℕ, List};
 ghost use Rattle.std.proofs.Math.Logic.{∥∥₁_elim};
 ghost use Rattle.std.proofs.Math.Bool.{Bool-set};
-ghost use Rattle.gob_convert.specs.Made.{made_through, shape_through, Follow};
+ghost use Rattle.gob_convert.specs.Made.{made_through, shape_through, FitTogether};
 ghost use Rattle.gob_convert.specs.Fitting.{all_made-through};
 
 use crate::convert::{Convert, ConvertFault, convert_each};
@@ -14,14 +14,14 @@ use std::alloc::Global;
 pub struct Many<A: Convert<OutShape = A::Shape, Out = A::Rec>> {
     list: Vec<A>,
     shape: A::Shape,
-    ghost follow: { ∥ Follow A.shape A.out_shape shape list.items ∥₁ },
+    ghost follow: { ∥ FitTogether A.shape A.out_shape shape list.items ∥₁ },
     ghost same_ends: { (s : A.Shape) (x : A.Rec) → A.fits s x ≡ A.out_fits s x },
 }
 
 impl<A: Convert<OutShape = A::Shape, Out = A::Rec>> Many<A> {
     /// The shape is that of the records that the first converter takes, and of all where the list is empty.
     pub fn new(list: Vec<A>, shape: A::Shape) -> Many<A>
-        requires follow { Follow A.shape A.out_shape shape list.items }
+        requires follow { FitTogether A.shape A.out_shape shape list.items }
         requires same_ends { (s : A.Shape) (x : A.Rec) → A.fits s x ≡ A.out_fits s x }
         ensures input { ⟦<Many<A> as Convert>⟧.shape result ≡ shape }
         ensures output { ⟦<Many<A> as Convert>⟧.out_shape result ≡ shape_through A.out_shape shape list.items }
@@ -74,5 +74,7 @@ impl<A: Convert<OutShape = A::Shape, Out = A::Rec>> Convert for Many<A> {
         Ok(records)
     }
 
-    ghost keeps = { λ m x fit. ∥∥₁_elim m.follow (Bool-set _ _) (λ follow. all_made-through A.fits A.out_fits m.same_ends A.shape A.out_shape A.made A.keeps m.shape m.list.items follow x fit) };
+    ghost keeps = { λ m x fit. ∥∥₁_elim m.follow (Bool-set _ _) (λ follow.
+        all_made-through A.fits A.out_fits m.same_ends A.shape A.out_shape A.made A.keeps m.shape m.list.items follow x
+        fit) };
 }

@@ -15,5 +15,6 @@ pub trait Placer {
         ensures err { OnErr result ((n : ℕ) × (into.new.items ≡ into.old.items ++ take n (place self.now rec.now))) };
 
     // the text is empty or ends in a slash
-    ghost ends: { (p : Self) (rec : Self.Rec) → (place p rec ≡ []) ⊎ ((front : List ℕ) × (place p rec ≡ front ++ 47 ∷ [])) };
+    ghost ends: { (p : Self) (rec : Self.Rec) →
+        (place p rec ≡ []) ⊎ ((front : List ℕ) × (place p rec ≡ front ++ 47 ∷ [])) };
 }

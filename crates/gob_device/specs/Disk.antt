@@ -1,21 +1,22 @@
 -- What a volume holds, what a call makes of it, and what a crash leaves of it.
-use Rattle.std.specs.Prelude.{◌≡◌, ◌≢◌, ◌⊎◌, ◌↔◌, ℕ, Bool, true, cond, List, [], ◌∷◌, ◌++◌, Contains, OnOk, OnErr, IsSome}
+use Rattle.std.specs.Prelude.{◌≡◌, ◌≢◌, ◌⊎◌, ◌↔◌, ℕ, true, if◌then◌else◌, List, [], ◌∷◌, ◌++◌, Contains}
+use Rattle.std.specs.Prelude.{OnOk, OnErr, IsSome}
 use Rattle.std.specs.declared.option.Option.{Option}
 use Rattle.std.specs.declared.option.Option.TheVariants.{None, Some}
 use Rattle.std.specs.declared.result.Result.{Result}
 use Rattle.std.specs.Prelude.{option_map}
 use Rattle.std.specs.Str.{bytes_eq}
 use Rattle.gob_bytes.specs.Paths.{begins_with}
-use Rattle.gob_bytes.specs.Tables.{Rising}
+use Rattle.gob_bytes.specs.Tables.{IsInByteOrder}
 
 -- a file: all of it is kept, or a crash may lose what is loose
 pub data File : Type 0 where
   clean : List ℕ → File
   dirty : (kept loose : List ℕ) → File
 
-abbrev pub kept_of : File → List ℕ
-kept_of (clean bytes) = bytes
-kept_of (dirty kept loose) = kept
+abbrev pub kept_bytes : File → List ℕ
+kept_bytes (clean bytes) = bytes
+kept_bytes (dirty kept loose) = kept
 
 -- what the file reads as
 abbrev pub contents_of : File → List ℕ
@@ -34,7 +35,7 @@ contents_at m name = option_map contents_of (m name)
 
 -- this name stands for this file, or for none
 abbrev pub put : Files → List ℕ → Option File → Files
-put m name file = λ other. cond (bytes_eq other name) file (m other)
+put m name file = λ other. if bytes_eq other name then file else m other
 
 -- bytes at the end of a file, which may be lost; no bytes change nothing
 abbrev pub with_more : List ℕ → File → File
@@ -43,24 +44,24 @@ with_more (b ∷ bs) (clean bytes) = dirty bytes (b ∷ bs)
 with_more (b ∷ bs) (dirty kept loose) = dirty kept (loose ++ b ∷ bs)
 
 -- all of a file is kept
-abbrev pub kept_whole : File → File
-kept_whole file = clean (contents_of file)
+abbrev pub synced_file : File → File
+synced_file file = clean (contents_of file)
 
 -- what each changing call makes of the map
-unfoldable pub created : List ℕ → Files → Files
-created name m = put m name (Some (clean []))
+unfoldable pub after_create : List ℕ → Files → Files
+after_create name m = put m name (Some (clean []))
 
-unfoldable pub appended : List ℕ → List ℕ → Files → Files
-appended name bytes m = put m name (option_map (with_more bytes) (m name))
+unfoldable pub after_append : List ℕ → List ℕ → Files → Files
+after_append name bytes m = put m name (option_map (with_more bytes) (m name))
 
-unfoldable pub synced : List ℕ → Files → Files
-synced name m = put m name (option_map kept_whole (m name))
+unfoldable pub after_sync : List ℕ → Files → Files
+after_sync name m = put m name (option_map synced_file (m name))
 
-unfoldable pub renamed : List ℕ → List ℕ → Files → Files
-renamed source target m = put (put m source None) target (m source)
+unfoldable pub after_rename : List ℕ → List ℕ → Files → Files
+after_rename source target m = put (put m source None) target (m source)
 
-unfoldable pub removed : List ℕ → Files → Files
-removed name m = put m name None
+unfoldable pub after_remove : List ℕ → Files → Files
+after_remove name m = put m name None
 
 -- a volume that tells: the map that stands, and the maps that stood, one for each changing call
 pub record Disk : Type 0 where
@@ -68,8 +69,8 @@ pub record Disk : Type 0 where
   pub trail : List Files
 
 -- a changing call that was answered
-abbrev pub changed : (Files → Files) → Disk → Disk
-changed step d = record { files = step d.files; trail = d.trail ++ step d.files ∷ [] }
+abbrev pub after_change : (Files → Files) → Disk → Disk
+after_change step d = record { files = step d.files; trail = d.trail ++ step d.files ∷ [] }
 
 -- a failed create, rename or remove leaves the map before or the map after
 abbrev pub Whole : (Files → Files) → Files → Files → Type 0
@@ -82,7 +83,8 @@ OnlyAt name m n = (other : List ℕ) → other ≢ name → n other ≡ m other
 -- a failed append or sync leaves the kept bytes as before or after the call, and any loose ones
 pub record Torn (name : List ℕ) (step : Files → Files) (m n : Files) : Type 0 where
   pub others : OnlyAt name m n
-  pub kept : (option_map kept_of (n name) ≡ option_map kept_of (m name)) ⊎ (option_map kept_of (n name) ≡ option_map kept_of (step m name))
+  pub kept : (option_map kept_bytes (n name) ≡ option_map kept_bytes (m name))
+      ⊎ (option_map kept_bytes (n name) ≡ option_map kept_bytes (step m name))
 
 -- a failed changing call: the trail has the map that it left, or has nothing more where the map is as it was
 pub record FailedChange (failed : Files → Files → Type 0) (d e : Disk) : Type 0 where
@@ -97,13 +99,22 @@ Both R None (Some b) = ⊥
 Both R (Some a) None = ⊥
 
 -- a changing call, whatever it answers
-pub record Changes {T E : Type 0} (step : Files → Files) (failed : Files → Files → Type 0) (old new : Option Disk) (result : Result T E) : Type 0 where
-  pub ok : OnOk result (new ≡ option_map (changed step) old)
+pub record Changes {T E : Type 0} (step : Files → Files) (failed : Files → Files → Type 0) (old new : Option Disk)
+    (result : Result T E) : Type 0 where
+  pub ok : OnOk result (new ≡ option_map (after_change step) old)
   pub err : OnErr result (Both (FailedChange failed) old new)
+
+-- a call that changes a map whole or not at all
+abbrev pub ChangesWhole : {T E : Type 0} → (Files → Files) → Option Disk → Option Disk → Result T E → Type 0
+ChangesWhole step old new result = Changes step (Whole step) old new result
+
+-- a call that may leave this file with other loose bytes
+abbrev pub ChangesFile : {T E : Type 0} → List ℕ → (Files → Files) → Option Disk → Option Disk → Result T E → Type 0
+ChangesFile name step old new result = Changes step (Torn name step) old new result
 
 -- the names are exactly those with this front, in byte order
 pub record IsListing (front : List ℕ) (m : Files) (names : List (List ℕ)) : Type 0 where
-  pub rising : Rising names
+  pub rising : IsInByteOrder names
   pub exact : (name : List ℕ) → Contains names name ↔ ((begins_with front name ≡ true) × IsSome (m name))
 
 -- what a crash leaves of a file: a clean one reads exactly, a dirty one has its kept bytes and then any
@@ -127,17 +138,36 @@ abbrev pub EachOf : (Files → Type 0) → List Files → Type 0
 EachOf P [] = Unit {0}
 EachOf P (m ∷ ms) = P m × EachOf P ms
 
--- a run of calls that tells: maps were added, and each of them, the last too, has R to the first
-pub record Went (R : Files → Files → Type 0) (d e : Disk) : Type 0 where
+-- the map that stands behind these: the last of them, or the first map where there is none
+abbrev pub last_map : Files → List Files → Files
+last_map m [] = m
+last_map m (n ∷ ns) = last_map n ns
+
+-- any number of calls that tell: maps were added, of which this holds with the first map, and the last one stands
+pub record Went (Q : Files → List Files → Type 0) (d e : Disk) : Type 0 where
   pub added : List Files
   pub trail : e.trail ≡ d.trail ++ added
-  pub each : EachOf (R d.files) added
-  pub last : R d.files e.files
+  pub stands : e.files ≡ last_map d.files added
+  pub holds : Q d.files added
 
-unfoldable pub Along : (Files → Files → Type 0) → Option Disk → Option Disk → Type 0
-Along R old new = Both (Went R) old new
+-- the same of calls that may tell nothing
+pub record AddsMaps (Q : Files → List Files → Type 0) (old new : Option Disk) : Type 0 where
+  pub told : Both (Went Q) old new
 
--- the maps come in as many stretches as the list has members, some of them empty: all of the first have P of the first member, and so on
+-- the first map has R to each that was added
+abbrev pub EachFrom : (Files → Files → Type 0) → Files → List Files → Type 0
+EachFrom R m added = EachOf (R m) added
+
+abbrev pub Along : (Files → Files → Type 0) → Option Disk → Option Disk → Type 0
+Along R old new = AddsMaps (EachFrom R) old new
+
+-- what one changing call adds: the map after it, or the one that it left where it failed, or none
+abbrev pub AddsOne : (Files → Files) → (Files → Files → Type 0) → Files → List Files → Type 0
+AddsOne step failed m added = (added ≡ []) ⊎ ((n : Files) × (added ≡ n ∷ []) × ((n ≡ step m) ⊎ failed m n))
+
+-- the maps come in as many stretches as the list has members, some of them empty: all of the first have P of the first
+-- member, and so on
 unfoldable pub Rises : {X : Type 0} → (X → Files → Type 0) → List X → List Files → Type 0
 Rises P [] ms = ms ≡ []
-Rises P (x ∷ xs) ms = (here : List Files) × (later : List Files) × (ms ≡ here ++ later) × EachOf (P x) here × Rises P xs later
+Rises P (x ∷ xs) ms =
+    (here : List Files) × (later : List Files) × (ms ≡ here ++ later) × EachOf (P x) here × Rises P xs later

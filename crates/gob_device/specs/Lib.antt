@@ -1,3 +1,5 @@
 pub mod Causes
 pub mod Disk
+pub mod Names
+pub mod Output
 pub mod Supply

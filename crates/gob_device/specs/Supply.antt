@@ -1,8 +1,7 @@
 -- What a source holds, and what was pulled from it.
-use Rattle.std.specs.Prelude.{◌≡◌, ◌≢◌, ℕ, ◌-◌, ◌^◌, ◌≤◌, Bool, cond, nat_eq, List, [], ◌∷◌, ◌++◌, map, length, take, drop, unwrap_or, All}
-use Rattle.std.specs.declared.option.Option.{Option}
-use Rattle.std.specs.declared.option.Option.TheVariants.{None, Some}
-use Rattle.gob_bytes.specs.Tables.{Table, at_name, names_of, Rising}
+use Rattle.std.specs.Prelude.{◌≡◌, ◌≢◌, ℕ, ◌-◌, ◌^◌, ◌≤◌, if◌then◌else◌, nat_eq, unwrap_or}
+use Rattle.std.specs.Prelude.{List, [], ◌∷◌, ◌++◌, map, length, take, drop, All}
+use Rattle.gob_bytes.specs.Tables.{Table, at_name, names_of, IsInByteOrder}
 
 -- partitions and their bytes
 abbrev pub Held : Type 0
@@ -31,8 +30,8 @@ abbrev pub bytes_at : Held → List ℕ → List ℕ
 bytes_at held part = unwrap_or (at_name held part) []
 
 -- what a partition has from an offset on, at most so many
-unfoldable pub given : Held → List ℕ → ℕ → ℕ → List ℕ
-given held part at len = take len (drop at (bytes_at held part))
+unfoldable pub bytes_from : Held → List ℕ → ℕ → ℕ → List ℕ
+bytes_from held part at len = take len (drop at (bytes_at held part))
 
 -- the partitions and their sizes
 abbrev pub listing_of : Held → List (List ℕ × ℕ)
@@ -40,10 +39,10 @@ listing_of held = map (λ e. (e.0, length e.1)) held
 
 -- a line feed for a line feed, and 0 for every other byte
 abbrev pub line_end_or_zero : ℕ → ℕ
-line_end_or_zero b = cond (nat_eq b 10) 10 0
+line_end_or_zero b = if nat_eq b 10 then 10 else 0
 
-unfoldable pub looked : List ℕ → List ℕ
-looked bytes = map line_end_or_zero bytes
+unfoldable pub seen_by_look : List ℕ → List ℕ
+seen_by_look bytes = map line_end_or_zero bytes
 
 -- the front of a buffer holds these bytes, and the answer is their number
 pub record Fills (buffer : List ℕ) (answer : ℕ) (bytes : List ℕ) : Type 0 where
@@ -57,5 +56,5 @@ pub record IsEntry (name : List ℕ) (size : ℕ) : Type 0 where
 
 -- a listing: byte order of names, each once, with names and sizes that fit
 pub record IsListed (listing : List (List ℕ × ℕ)) : Type 0 where
-  pub rising : Rising (names_of listing)
+  pub rising : IsInByteOrder (names_of listing)
   pub entries : All (λ e. IsEntry e.0 e.1) listing

@@ -1,14 +1,15 @@
 -- A steady map stands for its state in every image of what settles to it.
 use Rattle.std.proofs.Common.{◌≡◌, ◌↔◌, inl, ℕ, true, false, cond, List, refl, sym, ap, subst, ◌∙◌, Some, None, option_map}
 use Rattle.std.specs.declared.option.Option.{Option}
-use Rattle.gob_bytes.specs.Paths.{begins_with, staging, sequence_name, is_published, state_name}
+use Rattle.gob_bytes.specs.Paths.{begins_with, staging, sequence_name, is_published, keeps_state}
 use Rattle.gob_device.specs.Disk.{Files, File, clean, dirty, contents_of, contents_at, FileImage}
 use Rattle.gob_device.specs.Supply.{Held}
 use Rattle.gob_ledger.specs.State.{State}
 use Rattle.gob_ledger.specs.Expected.{IsExpected}
 use Rattle.gob_recovery.specs.Settle.{without_staging, SettlesAs}
 use Rattle.gob_recovery.proofs.Images.{image_at, images_alike}
-use Rattle.gob_history.specs.Sound.{Stores, SoundIn, AllStandFor, SteadyStands}
+use Rattle.gob_history.proofs.Kept.{keeps_alike}
+use Rattle.gob_history.specs.Sound.{Stores, SoundIn, AllRecoverTo, DurableRecovers}
 
 abbrev pub Quiet : Option File → Type 0
 Quiet x = (f : File) → x ≡ Some f → (bytes : List ℕ) × (f ≡ clean bytes)
@@ -24,9 +25,8 @@ reads_alike None None q e = refl
 reads_alike None (Some g) q e = absurd e
 reads_alike (Some f) y q e = clean_reads f y (q f refl) e
 
-pub stores_alike : (job : List ℕ) (o : Option State) (m n : Files) → contents_at n (state_name job) ≡ contents_at m (state_name job) → Stores job m o → Stores job n o
-stores_alike job None m n same s = same ∙ s
-stores_alike job (Some t) m n same s = (same ∙ s.0, s.1)
+pub stores_alike : (job : List ℕ) (o : Option State) (m n : Files) → ((name : List ℕ) → keeps_state job name ≡ true → contents_at n name ≡ contents_at m name) → Stores job m o → Stores job n o
+stores_alike job o m n same s = (s.0, keeps_alike job m n s.0 same s.1, s.2)
 
 pub sound_alike : (job : List ℕ) (archive : Held) (o : Option State) (m n : Files) → ((name : List ℕ) → is_published job name ≡ true → contents_at n name ≡ contents_at m name) → SoundIn job archive o m → SoundIn job archive o n
 sound_alike job archive None m n same s = λ name p. same name p ∙ s name p
@@ -38,15 +38,15 @@ sound_alike job archive (Some t) m n same s = record {
   files = λ name content p. subst (λ (c : Option (List ℕ)). (c ≡ Some content) ↔ IsExpected job t archive name content) (sym (same name p)) (s.files name content p);
 }
 
-pub standing : SteadyStands
-unfolding AllStandFor SettlesAs
+pub standing : DurableRecovers
+unfolding AllRecoverTo SettlesAs
 standing job archive o settled m steady alike = λ i image.
     let x = alike i image in
     let same : (name : List ℕ) → is_published job name ≡ true → contents_at x.0 name ≡ contents_at settled name =
-    λ name p. reads_alike (settled name) (x.0 name) (λ f e. steady.published name f p e) (image_at settled x.0 x.2 name) in (
+    λ name p. reads_alike (settled name) (x.0 name) (λ f e. steady.clean.published name f p e) (image_at settled x.0 x.2 name) in (
       x.0,
       x.1,
-      stores_alike job o settled x.0 (reads_alike (settled (state_name job)) (x.0 (state_name job)) steady.state (image_at settled x.0 x.2 (state_name job))) steady.stores,
+      stores_alike job o settled x.0 (λ name p. reads_alike (settled name) (x.0 name) (λ f e. steady.clean.state name f p e) (image_at settled x.0 x.2 name)) steady.stores,
       sound_alike job archive o settled x.0 same steady.sound,
     )
 

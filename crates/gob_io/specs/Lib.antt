@@ -1,4 +1,4 @@
-pub mod Joined
+pub mod ByName
 pub mod Listing
 pub mod MemSink
 pub mod MemSource

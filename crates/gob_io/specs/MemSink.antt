@@ -1,18 +1,17 @@
 -- What a sink in memory keeps and counts.
-use Rattle.std.specs.Prelude.{ℕ, List}
+use Rattle.gob_device.specs.Output.{Output}
+use Rattle.gob_memory.specs.Planned.{calls_of}
+use Rattle.gob_memory.specs.declared.counts.Counts.{Counts}
 use Rattle.gob_memory.specs.declared.planned.Planned.{Planned}
 use Rattle.gob_io.specs.declared.mem_sink.MemSink.{MemSink}
 
-abbrev pub written_to : MemSink → List ℕ
-written_to s = s.bytes
+abbrev pub output_of : MemSink → Output
+output_of s = record { bytes = s.bytes; writes = calls_of s.planned }
 
-abbrev pub faults_of : MemSink → ℕ
-faults_of s = s.faults
-
--- how many writes found no room
-abbrev pub shorts_of : MemSink → ℕ
-shorts_of s = s.shorts
+-- how often writes failed
+abbrev pub sink_counts : MemSink → Counts
+sink_counts s = s.counts
 
 -- which writes are to fail
-abbrev pub plan_of : MemSink → Planned
-plan_of s = s.planned
+abbrev pub sink_plan : MemSink → Planned
+sink_plan s = s.planned

@@ -1,35 +1,35 @@
 //! The edge over the files of a real folder.
 
-ghost use Rattle.std.specs.Prelude.{◌≡◌, ◌≤◌, length, map, IfOk};
+ghost use Rattle.std.specs.Prelude.{◌≡◌, ◌≤◌, length, map, IfOk, IsErr};
+ghost use Rattle.gob_device.specs.Causes.{CountsFailure};
 ghost use Rattle.gob_device.specs.Supply.{IsListed};
 ghost use Rattle.gob_io.specs.Listing.{entry_of};
 
 use crate::line_ends::keep_line_ends;
 use crate::listing::is_listed;
 use crate::{ListFault, Part, Source};
-use gob_folders::{Folder, OpenFiles, WalkFault, read_full};
+use gob_folders::{FileSystem, FolderFault, ReadFolder};
 use gob_plan::{Failed, Text};
 use std::alloc::Global;
-use std::fs::Files;
-use std::io::{Read, Seek};
+use std::collections::BTreeMap;
 
 /// The regular files below a folder, with `/` between folders in their names. Symbolic links, pipes and sockets are no
-/// partitions; a name that isn't UTF-8 fails the listing. It tells nothing of what the files hold.
+/// partitions; a name that isn't UTF-8 fails the listing, and so does a folder that isn't there. A name at which
+/// something else stands than stood there before fails the call. It tells nothing of what the files hold.
 #[derive(Drop)]
-pub struct DirSource<'a, R: Files> {
-    alloc: Global,
-    folder: Folder<'a, R>,
-    open: OpenFiles<R::File>,
+pub struct DirSource<'a, H: FileSystem> {
+    folder: ReadFolder<'a, H>,
     faults: u64,
     plan_faults: u64,
 }
 
-impl<'a, R: Files> DirSource<'a, R> {
-    pub fn new(rt: &'a R, alloc: Global, root: Text) -> Self {
+impl<'a, H: FileSystem> DirSource<'a, H> {
+    pub fn new(fs: &'a H, alloc: Global, root: Text) -> Self
+        ensures faults { result.faults ≡ 0 }
+        ensures plan_faults { result.plan_faults ≡ 0 }
+    {
         DirSource {
-            alloc,
-            folder: Folder::new(rt, alloc, root.into_string()),
-            open: OpenFiles::new(alloc),
+            folder: ReadFolder::new(fs, alloc, root.into_string()),
             faults: 0,
             plan_faults: 0,
         }
@@ -38,57 +38,45 @@ impl<'a, R: Files> DirSource<'a, R> {
     // The bytes from an offset on; none where the name isn't there.
     fn fill(&mut self, part: &str, at: u64, into: &mut [u8]) -> Result<usize, Failed>
         ensures within { IfOk result (λ n. n ≤ length into.old) }
-        ensures faults { self.new.faults ≡ self.old.faults }
-        ensures plan_faults { self.new.plan_faults ≡ self.old.plan_faults }
+        ensures cause { CountsFailure self.old.faults self.new.faults (IsErr result) }
+        ensures planned { self.new.plan_faults ≡ self.old.plan_faults }
     {
-        let Some((name, mut file)) = self.opened(part)? else {
-            return Ok(0);
-        };
-        let n = read_full(&mut file, at, into)?;
-        self.open.keep(name, file);
-        Ok(n)
-    }
-
-    fn opened(&mut self, part: &str) -> Result<Option<(String, R::File)>, Failed>
-        ensures faults { self.new.faults ≡ self.old.faults }
-        ensures plan_faults { self.new.plan_faults ≡ self.old.plan_faults }
-    {
-        if let Some(kept) = self.open.take(part) {
-            return Ok(Some(kept));
-        }
-        match self.folder.open(part)? {
-            Some(file) => Ok(Some((owned(self.alloc, part)?, file))),
-            None => Ok(None),
-        }
-    }
-
-    fn listing(&self, alloc: Global) -> Result<Vec<Part>, ListFault>
-        ensures { IfOk result (λ parts. IsListed (map entry_of parts.items)) }
-    {
-        let files = match self.folder.files("") {
-            Ok(files) => files,
-            Err(WalkFault::Failed) => return Err(ListFault::Failed),
-            Err(WalkFault::Memory) => return Err(ListFault::Memory),
-        };
-        let mut parts = Vec::new(alloc);
-        for (name, size) in files {
-            let part = Part {
-                name: Text::from_string(name),
-                size,
-            };
-            if let Err(_) = parts.push(part) {
-                return Err(ListFault::Memory);
+        match self.folder.read_at(part, at, into) {
+            Ok(Some(n)) => Ok(n),
+            Ok(None) => Ok(0),
+            Err(_) => {
+                self.faults = self.faults.saturating_add(1);
+                Err(Failed)
             }
-        }
-        if is_listed(parts.as_slice()) {
-            Ok(parts)
-        } else {
-            Err(ListFault::Failed)
         }
     }
 }
 
-impl<'a, R: Files> Source for DirSource<'a, R> {
+// The files as a listing of partitions; a folder that isn't there has none.
+fn listing(alloc: Global, files: Option<BTreeMap<String, u64>>) -> Result<Vec<Part>, ListFault>
+    ensures { IfOk result (λ parts. IsListed (map entry_of parts.items)) }
+{
+    let Some(files) = files else {
+        return Err(ListFault::Failed);
+    };
+    let mut parts = Vec::new(alloc);
+    for (name, size) in files {
+        let part = Part {
+            name: Text::from_string(name),
+            size,
+        };
+        if let Err(_) = parts.push(part) {
+            return Err(ListFault::Memory);
+        }
+    }
+    if is_listed(parts.as_slice()) {
+        Ok(parts)
+    } else {
+        Err(ListFault::Failed)
+    }
+}
+
+impl<'a, H: FileSystem> Source for DirSource<'a, H> {
     ghost use Rattle.std.specs.declared.option.Option.TheVariants.{None};
 
     ghost supply = { λ s. None };
@@ -100,7 +88,11 @@ impl<'a, R: Files> Source for DirSource<'a, R> {
     ghost held_is_listed = { λ s. tt };
 
     fn list(&mut self, alloc: Global) -> Result<Vec<Part>, ListFault> {
-        let listed = self.listing(alloc);
+        let listed = match self.folder.files() {
+            Ok(files) => listing(alloc, files),
+            Err(FolderFault::Failed) => Err(ListFault::Failed),
+            Err(FolderFault::Memory) => Err(ListFault::Memory),
+        };
         if let Err(ListFault::Failed) = listed {
             self.faults = self.faults.saturating_add(1);
             self.plan_faults = self.plan_faults.saturating_add(1);
@@ -115,7 +107,6 @@ impl<'a, R: Files> Source for DirSource<'a, R> {
                 Ok(n)
             }
             Err(Failed) => {
-                self.faults = self.faults.saturating_add(1);
                 self.plan_faults = self.plan_faults.saturating_add(1);
                 Err(Failed)
             }
@@ -123,14 +114,7 @@ impl<'a, R: Files> Source for DirSource<'a, R> {
     }
 
     fn pull(&mut self, part: &str, at: u64, into: &mut [u8]) -> Result<usize, Failed> {
-        let pulled = self.fill(part, at, into);
-        if let Err(Failed) = pulled {
-            self.faults = self.faults.saturating_add(1);
-        }
-        pulled
+        let n = self.fill(part, at, into)?;
+        Ok(n)
     }
-}
-
-fn owned(alloc: Global, text: &str) -> Result<String, Failed> {
-    String::from_str(alloc, text).map_err(|_| Failed)
 }

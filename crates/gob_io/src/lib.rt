@@ -1,8 +1,8 @@
 //! Where records come from and where texts go: sources of growing partitions, and sinks of bytes.
 #![tactic(auto)]
 
+mod by_name;
 mod dir_source;
-mod joined;
 mod line_ends;
 mod listing;
 mod mem_sink;
@@ -10,8 +10,6 @@ mod mem_source;
 mod sink;
 mod source;
 mod std_sink;
-#[cfg(test)]
-mod tests;
 
 pub use dir_source::DirSource;
 pub use mem_sink::MemSink;

@@ -1,7 +1,7 @@
 //! What a look tells of bytes: where lines end.
 
 ghost use Rattle.std.specs.Prelude.{◌≡◌};
-ghost use Rattle.gob_device.specs.Supply.{line_end_or_zero, looked};
+ghost use Rattle.gob_device.specs.Supply.{line_end_or_zero, seen_by_look};
 
 fn only_line_end(byte: u8) -> u8
     ensures { result ≡ line_end_or_zero byte }
@@ -11,7 +11,7 @@ fn only_line_end(byte: u8) -> u8
 
 /// Leaves line feeds in the bytes, and 0 for every other one.
 pub fn keep_line_ends(bytes: &mut [u8])
-    ensures { bytes.new ≡ looked bytes.old }
+    ensures { bytes.new ≡ seen_by_look bytes.old }
 {
     for byte in bytes.iter_mut() {
         *byte = only_line_end(*byte);

@@ -1,11 +1,12 @@
 //! A sink in memory.
 
-ghost use Rattle.std.specs.Prelude.{◌≡◌, ◌++◌, [], IsErr, OnErr, OnOk};
-ghost use Rattle.gob_device.specs.Causes.{HasCause};
-ghost use Rattle.gob_memory.specs.Planned.{AsPlanned, calls_of, numbers_of};
+ghost use Rattle.std.specs.Prelude.{◌≡◌, [], IsErr, OnErr, OnOk};
+ghost use Rattle.gob_device.specs.Causes.{CountsFailure};
+ghost use Rattle.gob_device.specs.Output.{bytes_in, with_write};
+ghost use Rattle.gob_memory.specs.Planned.{CountsCall, FailsAsPlanned, IsDue, calls_of, numbers_of};
 
 use crate::Sink;
-use gob_memory::Planned;
+use gob_memory::{Counts, Planned};
 use gob_plan::{Bytes, Failed, NoMemory};
 use std::alloc::Global;
 
@@ -14,31 +15,28 @@ use std::alloc::Global;
 pub struct MemSink {
     bytes: Bytes,
     planned: Planned,
-    faults: u64,
-    shorts: u64,
+    counts: Counts,
 }
 
 impl MemSink {
-    ghost use Rattle.gob_io.specs.MemSink.{plan_of, shorts_of};
+    ghost use Rattle.gob_io.specs.MemSink.{sink_counts, sink_plan};
 
     pub fn new(alloc: Global, fails: Vec<u64>) -> Self
-        ensures tells { ⟦<MemSink as Sink>⟧.written result ≡ Some [] }
-        ensures faults { ⟦<MemSink as Sink>⟧.faults result ≡ 0 }
-        ensures shorts { shorts_of result ≡ 0 }
-        ensures numbers { numbers_of (plan_of result) ≡ fails.items }
-        ensures calls { calls_of (plan_of result) ≡ 0 }
+        ensures tells { ⟦<MemSink as Sink>⟧.output result ≡ Some (record { bytes = []; writes = 0 }) }
+        ensures counts { sink_counts result ≡ record { faults = 0; shorts = 0 } }
+        ensures numbers { numbers_of (sink_plan result) ≡ fails.items }
+        ensures calls { calls_of (sink_plan result) ≡ 0 }
     {
         MemSink {
             bytes: Bytes::new(alloc),
             planned: Planned::new(fails),
-            faults: 0,
-            shorts: 0,
+            counts: Counts::new(),
         }
     }
 
     /// What was written.
     pub fn bytes(&self) -> &[u8]
-        ensures { ⟦<MemSink as Sink>⟧.written self.now ≡ Some result.now }
+        ensures { bytes_in (⟦<MemSink as Sink>⟧.output self.now) ≡ Some result.now }
     {
         self.bytes.as_slice()
     }
@@ -47,38 +45,38 @@ impl MemSink {
     pub fn fault_count(&self) -> u64
         ensures { result ≡ ⟦<MemSink as Sink>⟧.faults self.now }
     {
-        self.faults
+        self.counts.faults
     }
 
     /// How many writes found no room.
     pub fn short_count(&self) -> u64
-        ensures { result ≡ shorts_of self.now }
+        ensures { result ≡ (sink_counts self.now).shorts }
     {
-        self.shorts
+        self.counts.shorts
     }
 }
 
 impl Sink for MemSink {
     ghost use Rattle.std.specs.declared.option.Option.TheVariants.{Some};
-    ghost use Rattle.gob_io.specs.MemSink.{faults_of, plan_of, shorts_of, written_to};
+    ghost use Rattle.gob_io.specs.MemSink.{output_of, sink_counts, sink_plan};
 
-    ghost written = { λ s. Some (written_to s) };
+    ghost output = { λ s. Some (output_of s) };
 
-    ghost faults = { faults_of };
+    ghost faults = { λ s. (sink_counts s).faults };
 
     fn write(&mut self, bytes: &[u8]) -> Result<(), Failed>
-        ensures ok { OnOk result (written_to self.new ≡ written_to self.old ++ bytes.now) }
-        ensures err { OnErr result (written_to self.new ≡ written_to self.old) }
-        ensures cause { HasCause (faults_of self.old) (faults_of self.new) (IsErr result) }
-        ensures planned { AsPlanned (plan_of self.old) (plan_of self.new) (shorts_of self.old) (shorts_of self.new) (IsErr result) }
+        ensures ok { OnOk result (output_of self.new ≡ with_write bytes.now (output_of self.old)) }
+        ensures err { OnErr result (output_of self.new ≡ with_write [] (output_of self.old)) }
+        ensures cause { CountsFailure (sink_counts self.old).faults (sink_counts self.new).faults (IsErr result) }
+        ensures planned { FailsAsPlanned (IsDue (sink_plan self.old)) (sink_counts self.old) (sink_counts self.new) (IsErr result) }
+        ensures call { CountsCall (sink_plan self.old) (sink_plan self.new) }
     {
         if self.planned.fails_next() {
-            self.faults = self.faults.saturating_add(1);
+            self.counts.fail();
             return Err(Failed);
         }
         if let Err(NoMemory) = self.bytes.push(bytes) {
-            self.faults = self.faults.saturating_add(1);
-            self.shorts = self.shorts.saturating_add(1);
+            self.counts.fall_short();
             return Err(Failed);
         }
         Ok(())

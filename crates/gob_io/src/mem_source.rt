@@ -1,17 +1,19 @@
 //! A source in memory.
 
-ghost use Rattle.std.specs.Prelude.{◌≡◌, ◌≢◌, ◌≤◌, ◌++◌, ◌-◌, ◌^◌, [], length, map, take, All, IfOk, IsErr, OnErr, OnOk};
-ghost use Rattle.gob_device.specs.Causes.{HasCause};
+ghost use Rattle.std.specs.Prelude.{◌≡◌, ◌≢◌, ◌≤◌, ◌++◌, ◌-◌, ◌^◌, [], length, map, take};
+ghost use Rattle.std.specs.Prelude.{All, IfOk, IsErr, OnErr, OnOk};
+ghost use Rattle.gob_device.specs.Causes.{CountsFailure};
 ghost use Rattle.gob_bytes.specs.Tables.{with_name};
-ghost use Rattle.gob_device.specs.Supply.{Fills, IsListed, bytes_at, given, listing_of, looked, with_pull};
-ghost use Rattle.gob_memory.specs.Planned.{AsPlanned, calls_of, numbers_of};
-ghost use Rattle.gob_io.specs.Joined.{joined};
+ghost use Rattle.gob_device.specs.Supply.{Fills, IsListed, Pull};
+ghost use Rattle.gob_device.specs.Supply.{bytes_at, bytes_from, listing_of, seen_by_look, with_pull};
+ghost use Rattle.gob_memory.specs.Planned.{CountsCall, CountsOne, FailsAsPlanned, IsDue, calls_of, numbers_of};
+ghost use Rattle.gob_io.specs.ByName.{table_of};
 ghost use Rattle.gob_io.specs.Listing.{IsListed-prop, entry_of};
 
-use crate::joined::join;
+use crate::by_name::sort_by_name;
 use crate::line_ends::keep_line_ends;
 use crate::{ListFault, Part, Source};
-use gob_memory::{Planned, fill_from, find, get, set};
+use gob_memory::{Counts, Planned, fill_from, find, get, set};
 use gob_plan::{Bytes, Failed, NoMemory, Text};
 use std::alloc::Global;
 
@@ -33,14 +35,14 @@ pub struct MemSource {
     lists: Planned,
     looks: Planned,
     takes: Planned,
-    faults: u64,
+    counts: Counts,
     plan_faults: u64,
-    shorts: u64,
     ghost listed: { IsListed (listing_of parts.items) } by { IsListed-prop (listing_of parts.items) },
 }
 
 impl MemSource {
-    ghost use Rattle.gob_io.specs.MemSource.{faults_of, grown, list_plan, look_plan, plan_faults_of, pull_of, pull_plan, shorts_of, supply_of};
+    ghost use Rattle.gob_io.specs.MemSource.{list_plan, look_plan, plan_faults_of, pull_of, pull_plan};
+    ghost use Rattle.gob_io.specs.MemSource.{source_counts, supply_of, with_bytes};
 
     /// Of equal names the last one counts.
     pub fn new(
@@ -51,36 +53,35 @@ impl MemSource {
         fail_pulls: Vec<u64>,
     ) -> Self
         requires { All (λ p. p.0 ≢ []) parts.items }
-        ensures tells { ⟦<MemSource as Source>⟧.supply result ≡ Some (record { held = joined parts.items; pulls = [] }) }
-        ensures faults { ⟦<MemSource as Source>⟧.faults result ≡ 0 }
+        ensures tells { ⟦<MemSource as Source>⟧.supply result ≡ Some (record { held = table_of parts.items; pulls = [] }) }
+        ensures counts { source_counts result ≡ record { faults = 0; shorts = 0 } }
         ensures plan_faults { ⟦<MemSource as Source>⟧.plan_faults result ≡ 0 }
-        ensures shorts { shorts_of result ≡ 0 }
         ensures lists { (numbers_of (list_plan result) ≡ fail_lists.items) × (calls_of (list_plan result) ≡ 0) }
         ensures looks { (numbers_of (look_plan result) ≡ fail_looks.items) × (calls_of (look_plan result) ≡ 0) }
         ensures pulls { (numbers_of (pull_plan result) ≡ fail_pulls.items) × (calls_of (pull_plan result) ≡ 0) }
     {
         MemSource {
             alloc,
-            parts: join(parts),
+            parts: sort_by_name(parts),
             pulls: Vec::new(alloc),
             lists: Planned::new(fail_lists),
             looks: Planned::new(fail_looks),
             takes: Planned::new(fail_pulls),
-            faults: 0,
+            counts: Counts::new(),
             plan_faults: 0,
-            shorts: 0,
         }
     }
 
     /// Adds bytes at the end of a partition, which is made where it isn't there. Without memory all stays as it was.
     pub fn grow(&mut self, part: &str, bytes: &[u8]) -> Result<(), NoMemory>
         requires { part.now ≢ [] }
-        ensures ok { OnOk result (supply_of self.new ≡ grown part.now bytes.now (supply_of self.old)) }
+        ensures ok { OnOk result (supply_of self.new ≡ with_bytes part.now bytes.now (supply_of self.old)) }
         ensures err { OnErr result (supply_of self.new ≡ supply_of self.old) }
-        ensures faults { faults_of self.new ≡ faults_of self.old }
+        ensures counts { source_counts self.new ≡ source_counts self.old }
         ensures plan_faults { plan_faults_of self.new ≡ plan_faults_of self.old }
-        ensures shorts { shorts_of self.new ≡ shorts_of self.old }
-        ensures plans { (list_plan self.new ≡ list_plan self.old) × (look_plan self.new ≡ look_plan self.old) × (pull_plan self.new ≡ pull_plan self.old) }
+        ensures lists { list_plan self.new ≡ list_plan self.old }
+        ensures looks { look_plan self.new ≡ look_plan self.old }
+        ensures pulls { pull_plan self.new ≡ pull_plan self.old }
     {
         grow_part(self.alloc, &mut self.parts, part, bytes)?;
         Ok(())
@@ -90,14 +91,14 @@ impl MemSource {
     pub fn fault_count(&self) -> u64
         ensures { result ≡ ⟦<MemSource as Source>⟧.faults self.now }
     {
-        self.faults
+        self.counts.faults
     }
 
     /// How many pulls found no room for their entry.
     pub fn short_count(&self) -> u64
-        ensures { result ≡ shorts_of self.now }
+        ensures { result ≡ (source_counts self.now).shorts }
     {
-        self.shorts
+        self.counts.shorts
     }
 
     /// The pulls that were answered, in order.
@@ -117,7 +118,8 @@ fn grow_part(
 ) -> Result<(), NoMemory>
     requires named { part.now ≢ [] }
     requires listed { IsListed (listing_of parts.old.items) }
-    ensures ok { OnOk result (parts.new.items ≡ with_name parts.old.items part.now (bytes_at parts.old.items part.now ++ bytes.now)) }
+    ensures ok { OnOk result (parts.new.items
+        ≡ with_name parts.old.items part.now (bytes_at parts.old.items part.now ++ bytes.now)) }
     ensures err { OnErr result (parts.new.items ≡ parts.old.items) }
     ensures listed { IsListed (listing_of parts.new.items) }
 {
@@ -163,7 +165,7 @@ fn listing(alloc: Global, parts: &[(Text, Bytes)]) -> Result<Vec<Part>, NoMemory
 fn give(parts: &[(Text, Bytes)], part: &str, at: u64, into: &mut [u8]) -> usize
     requires { IsListed (listing_of parts.now) }
     ensures within { result ≤ length into.old }
-    ensures fills { Fills into.new result (given parts.now part.now at (length into.old)) }
+    ensures fills { Fills into.new result (bytes_from parts.now part.now at (length into.old)) }
 {
     match get(parts, part) {
         Some(bytes) => fill_from(bytes.as_slice(), at, into),
@@ -172,16 +174,17 @@ fn give(parts: &[(Text, Bytes)], part: &str, at: u64, into: &mut [u8]) -> usize
 }
 
 impl MemSource {
-    ghost use Rattle.gob_io.specs.MemSource.{faults_of, list_plan, look_plan, plan_faults_of, pull_plan, shorts_of, supply_of};
+    ghost use Rattle.gob_io.specs.MemSource.{list_plan, look_plan, plan_faults_of, pull_plan, source_counts, supply_of};
 
     // Adds an entry to the list of pulls.
     fn note(&mut self, part: &str, at: u64, len: usize) -> Result<(), NoMemory>
         ensures ok { OnOk result (supply_of self.new ≡ with_pull (record { part = part.now; at = at; len = len }) (supply_of self.old)) }
         ensures err { OnErr result (supply_of self.new ≡ supply_of self.old) }
-        ensures faults { faults_of self.new ≡ faults_of self.old }
+        ensures counts { source_counts self.new ≡ source_counts self.old }
         ensures plan_faults { plan_faults_of self.new ≡ plan_faults_of self.old }
-        ensures shorts { shorts_of self.new ≡ shorts_of self.old }
-        ensures plans { (list_plan self.new ≡ list_plan self.old) × (look_plan self.new ≡ look_plan self.old) × (pull_plan self.new ≡ pull_plan self.old) }
+        ensures lists { list_plan self.new ≡ list_plan self.old }
+        ensures looks { look_plan self.new ≡ look_plan self.old }
+        ensures pulls { pull_plan self.new ≡ pull_plan self.old }
     {
         let entry = Pulled {
             part: Text::from_str(self.alloc, part)?,
@@ -197,11 +200,11 @@ impl MemSource {
 
 impl Source for MemSource {
     ghost use Rattle.std.specs.declared.option.Option.TheVariants.{Some};
-    ghost use Rattle.gob_io.specs.MemSource.{faults_of, list_plan, look_plan, plan_faults_of, pull_plan, shorts_of, supply_of};
+    ghost use Rattle.gob_io.specs.MemSource.{list_plan, look_plan, plan_faults_of, pull_plan, source_counts, supply_of};
 
     ghost supply = { λ s. Some (supply_of s) };
 
-    ghost faults = { faults_of };
+    ghost faults = { λ s. (source_counts s).faults };
 
     ghost plan_faults = { plan_faults_of };
 
@@ -211,14 +214,16 @@ impl Source for MemSource {
         ensures listed { IfOk result (λ parts. IsListed (map entry_of parts.items)) }
         ensures entries { IfOk result (λ parts. map entry_of parts.items ≡ listing_of (supply_of self.old).held) }
         ensures supply { supply_of self.new ≡ supply_of self.old }
-        ensures cause { HasCause (faults_of self.old) (faults_of self.new) (result ≡ Err ListFault.Failed) }
-        ensures planned { HasCause (plan_faults_of self.old) (plan_faults_of self.new) (result ≡ Err ListFault.Failed) }
-        ensures as_planned { AsPlanned (list_plan self.old) (list_plan self.new) (shorts_of self.old) (shorts_of self.new) (result ≡ Err ListFault.Failed) }
-        ensures short { shorts_of self.new ≡ shorts_of self.old }
+        ensures cause { CountsFailure (source_counts self.old).faults (source_counts self.new).faults (result ≡ Err ListFault.Failed) }
+        ensures planned { CountsFailure (plan_faults_of self.old) (plan_faults_of self.new) (result ≡ Err ListFault.Failed) }
+        ensures as_planned { FailsAsPlanned (IsDue (list_plan self.old)) (source_counts self.old) (source_counts self.new) (result ≡ Err ListFault.Failed) }
+        ensures call { CountsCall (list_plan self.old) (list_plan self.new) }
+        ensures one { CountsOne (plan_faults_of self.old) (plan_faults_of self.new) (result ≡ Err ListFault.Failed) }
+        ensures short { (source_counts self.new).shorts ≡ (source_counts self.old).shorts }
         ensures others { (look_plan self.new ≡ look_plan self.old) × (pull_plan self.new ≡ pull_plan self.old) }
     {
         if self.lists.fails_next() {
-            self.faults = self.faults.saturating_add(1);
+            self.counts.fail();
             self.plan_faults = self.plan_faults.saturating_add(1);
             return Err(ListFault::Failed);
         }
@@ -229,18 +234,22 @@ impl Source for MemSource {
     }
 
     fn look(&mut self, part: &str, at: u64, into: &mut [u8]) -> Result<usize, Failed>
+        requires { part.now ≢ [] }
         ensures within { IfOk result (λ n. n ≤ length into.old) }
-        ensures shape { IfOk result (λ n. looked (take n into.new) ≡ take n into.new) }
-        ensures bytes { IfOk result (λ n. Fills into.new n (looked (given (supply_of self.old).held part.now at (length into.old)))) }
+        ensures shape { IfOk result (λ n. seen_by_look (take n into.new) ≡ take n into.new) }
+        ensures bytes { IfOk result (λ n.
+            Fills into.new n (seen_by_look (bytes_from (supply_of self.old).held part.now at (length into.old)))) }
         ensures supply { supply_of self.new ≡ supply_of self.old }
-        ensures cause { HasCause (faults_of self.old) (faults_of self.new) (IsErr result) }
-        ensures planned { HasCause (plan_faults_of self.old) (plan_faults_of self.new) (IsErr result) }
-        ensures as_planned { AsPlanned (look_plan self.old) (look_plan self.new) (shorts_of self.old) (shorts_of self.new) (IsErr result) }
-        ensures short { shorts_of self.new ≡ shorts_of self.old }
+        ensures cause { CountsFailure (source_counts self.old).faults (source_counts self.new).faults (IsErr result) }
+        ensures planned { CountsFailure (plan_faults_of self.old) (plan_faults_of self.new) (IsErr result) }
+        ensures as_planned { FailsAsPlanned (IsDue (look_plan self.old)) (source_counts self.old) (source_counts self.new) (IsErr result) }
+        ensures call { CountsCall (look_plan self.old) (look_plan self.new) }
+        ensures one { CountsOne (plan_faults_of self.old) (plan_faults_of self.new) (IsErr result) }
+        ensures short { (source_counts self.new).shorts ≡ (source_counts self.old).shorts }
         ensures others { (list_plan self.new ≡ list_plan self.old) × (pull_plan self.new ≡ pull_plan self.old) }
     {
         if self.looks.fails_next() {
-            self.faults = self.faults.saturating_add(1);
+            self.counts.fail();
             self.plan_faults = self.plan_faults.saturating_add(1);
             return Err(Failed);
         }
@@ -250,22 +259,24 @@ impl Source for MemSource {
     }
 
     fn pull(&mut self, part: &str, at: u64, into: &mut [u8]) -> Result<usize, Failed>
+        requires { part.now ≢ [] }
         ensures within { IfOk result (λ n. n ≤ length into.old) }
-        ensures bytes { IfOk result (λ n. Fills into.new n (given (supply_of self.old).held part.now at (length into.old))) }
-        ensures counted { OnOk result (supply_of self.new ≡ with_pull (record { part = part.now; at = at; len = length into.old }) (supply_of self.old)) }
+        ensures bytes { IfOk result (λ n. Fills into.new n (bytes_from (supply_of self.old).held part.now at (length into.old))) }
+        ensures counted { let pull : Pull = record { part = part.now; at = at; len = length into.old } in
+            OnOk result (supply_of self.new ≡ with_pull pull (supply_of self.old)) }
         ensures uncounted { OnErr result (supply_of self.new ≡ supply_of self.old) }
-        ensures cause { HasCause (faults_of self.old) (faults_of self.new) (IsErr result) }
+        ensures cause { CountsFailure (source_counts self.old).faults (source_counts self.new).faults (IsErr result) }
         ensures planned { plan_faults_of self.new ≡ plan_faults_of self.old }
-        ensures as_planned { AsPlanned (pull_plan self.old) (pull_plan self.new) (shorts_of self.old) (shorts_of self.new) (IsErr result) }
+        ensures as_planned { FailsAsPlanned (IsDue (pull_plan self.old)) (source_counts self.old) (source_counts self.new) (IsErr result) }
+        ensures call { CountsCall (pull_plan self.old) (pull_plan self.new) }
         ensures others { (list_plan self.new ≡ list_plan self.old) × (look_plan self.new ≡ look_plan self.old) }
     {
         if self.takes.fails_next() {
-            self.faults = self.faults.saturating_add(1);
+            self.counts.fail();
             return Err(Failed);
         }
         if let Err(NoMemory) = self.note(part, at, into.len()) {
-            self.faults = self.faults.saturating_add(1);
-            self.shorts = self.shorts.saturating_add(1);
+            self.counts.fall_short();
             return Err(Failed);
         }
         Ok(give(self.parts.as_slice(), part, at, into))

@@ -41,7 +41,7 @@ fn print_all<R: Print>(rt: &R, bytes: &[u8]) -> Result<(), Failed> {
 impl<'a, R: Print> Sink for StdSink<'a, R> {
     ghost use Rattle.std.specs.declared.option.Option.TheVariants.{None};
 
-    ghost written = { λ s. None };
+    ghost output = { λ s. None };
 
     ghost faults = { λ s. s.faults };
 

@@ -1,17 +1,17 @@
 -- What a change of one partition leaves of a state.
-use Rattle.std.proofs.Common.{◌≡◌, ◌⊎◌, inl, inr, ⊎_elim, ℕ, zero, suc, ◌+◌, ◌<◌, Bool, true, false, cond, List, [], ◌∷◌, ◌++◌, map, length, refl, sym, ap, subst, ◌∙◌, Some, unwrap_or, arith}
+use Rattle.std.proofs.Common.{◌≡◌, ◌⊎◌, inl, inr, ⊎_elim, ℕ, zero, suc, ◌+◌, ◌<◌, Bool, true, false, cond, List, [], ◌∷◌, ◌++◌, map, length, refl, sym, ap, subst, ◌∙◌, Some, unwrap_or, arith, None}
 use Rattle.std.specs.declared.option.Option.{Option}
 use Rattle.std.specs.List.{Contains, AllByRecursion, zip, list_any, position_or_len, slice_get}
 use Rattle.std.specs.Str.{bytes_eq}
 use Rattle.gob_bytes.proofs.Tables.{at-with_name, rising-with_name, same_name, name_itself}
-use Rattle.gob_bytes.specs.Tables.{names_of, Rising}
+use Rattle.gob_bytes.specs.Tables.{names_of, IsInByteOrder}
 use Rattle.gob_plan.specs.declared.units.Unit.{Unit as WorkUnit}
 use Rattle.gob_plan.specs.declared.plan.CommitPolicy.{CommitPolicy}
 use Rattle.gob_meaning.specs.Results.{Verdict}
 use Rattle.gob_ledger.specs.Marks.{Marks}
 use Rattle.gob_ledger.specs.State.{State, marks_at}
 use Rattle.gob_ledger.specs.Units.{span_of}
-use Rattle.gob_ledger.specs.Next.{Judged, no_marks, with_owed, with_done, change_part, add_unit, finish_unit, fold_units, with_pipeline, pipeline_index, committed_or, allowed_units, next_state}
+use Rattle.gob_ledger.specs.Next.{Judged, no_marks, with_owed, with_done, change_part, add_unit, finish_unit, fold_units, with_pipeline, pipeline_index, state_with_commit_or, allowed_units, next_state}
 use Rattle.gob_ledger.proofs.Members.{none_in, in_cases}
 
 -- the marks of a partition, which has none at first
@@ -97,6 +97,18 @@ get_front [] ys k below = absurd (omega (arith, below))
 get_front (x ∷ xs) ys zero below = refl
 get_front (x ∷ xs) ys (suc k) below = get_front xs ys k (omega (arith, below))
 
+get_kept : {A : Type 0} (xs ys : List A) (k : ℕ) (x : A) → slice_get xs k ≡ Some x → slice_get (xs ++ ys) k ≡ Some x
+get_kept [] ys k x e = absurd (let no : None ≡ Some x = e in cc)
+get_kept (z ∷ xs) ys zero x e = e
+get_kept (z ∷ xs) ys (suc k) x e = get_kept xs ys k x e
+
+-- a pipeline that has a place keeps it
+pub pipeline_kept : (p : List ℕ) (s : State) (k : ℕ) (q : List ℕ) → slice_get s.pipelines k ≡ Some q → slice_get (with_pipeline p s).pipelines k ≡ Some q
+pipeline_kept p s k q e = ap (λ ps. slice_get ps k) (with-pipelines p s) ∙ elim (list_any (bytes_eq p) s.pipelines) as (λ b. slice_get (cond b s.pipelines (s.pipelines ++ p ∷ [])) k ≡ Some q) [
+  | true ↦ e
+  | false ↦ get_kept s.pipelines (p ∷ []) k q e
+]
+
 -- the pipelines that were there keep their places
 pub pipeline_stays : (p : List ℕ) (s : State) (k : ℕ) → k < length s.pipelines → slice_get (with_pipeline p s).pipelines k ≡ slice_get s.pipelines k
 pipeline_stays p s k below = ap (λ ps. slice_get ps k) (with-pipelines p s) ∙ elim (list_any (bytes_eq p) s.pipelines) as (λ b. slice_get (cond b s.pipelines (s.pipelines ++ p ∷ [])) k ≡ slice_get s.pipelines k) [
@@ -105,29 +117,29 @@ pipeline_stays p s k below = ap (λ ps. slice_get ps k) (with-pipelines p s) ∙
 ]
 
 -- the names of partitions stay in order
-changed_rising : (f : Marks → Marks) (part : List ℕ) (s : State) → Rising (names_of s.parts) → Rising (names_of (change_part f part s).parts)
+changed_rising : (f : Marks → Marks) (part : List ℕ) (s : State) → IsInByteOrder (names_of s.parts) → IsInByteOrder (names_of (change_part f part s).parts)
 changed_rising f part s r = rising-with_name s.parts part (f (marks_or s part)) r
 
-add_rising : (s : State) (j : Judged) → Rising (names_of s.parts) → Rising (names_of (add_unit s j).parts)
-add_rising s j r = elim j.0.fresh as (λ b. Rising (names_of (cond b (change_part (with_owed (span_of j.0)) j.0.part s) s).parts)) [
+add_rising : (s : State) (j : Judged) → IsInByteOrder (names_of s.parts) → IsInByteOrder (names_of (add_unit s j).parts)
+add_rising s j r = elim j.0.fresh as (λ b. IsInByteOrder (names_of (cond b (change_part (with_owed (span_of j.0)) j.0.part s) s).parts)) [
   | true ↦ changed_rising (with_owed (span_of j.0)) j.0.part s r
   | false ↦ r
 ]
 
-adds_rising : (js : List Judged) (s : State) → Rising (names_of s.parts) → Rising (names_of (fold_units add_unit s js).parts)
+adds_rising : (js : List Judged) (s : State) → IsInByteOrder (names_of s.parts) → IsInByteOrder (names_of (fold_units add_unit s js).parts)
 adds_rising [] s r = r
 adds_rising (j ∷ js) s r = adds_rising js (add_unit s j) (add_rising s j r)
 
-finishes_rising : (p : ℕ) (js : List Judged) (s : State) → Rising (names_of s.parts) → Rising (names_of (fold_units (finish_unit p) s js).parts)
+finishes_rising : (p : ℕ) (js : List Judged) (s : State) → IsInByteOrder (names_of s.parts) → IsInByteOrder (names_of (fold_units (finish_unit p) s js).parts)
 finishes_rising p [] s r = r
 finishes_rising p (j ∷ js) s r = finishes_rising p js (finish_unit p s j) (changed_rising (with_done p (span_of j.0)) j.0.part s r)
 
-committed_rising : (s : State) (pipeline : List ℕ) (all done : List Judged) → Rising (names_of s.parts) → Rising (names_of (committed_or s pipeline all done).parts)
+committed_rising : (s : State) (pipeline : List ℕ) (all done : List Judged) → IsInByteOrder (names_of s.parts) → IsInByteOrder (names_of (state_with_commit_or s pipeline all done).parts)
 committed_rising s pipeline all [] r = r
 committed_rising s pipeline all (d ∷ ds) r =
     finishes_rising (pipeline_index pipeline s) (d ∷ ds) (fold_units add_unit (with_pipeline pipeline s) all)
-    (adds_rising all (with_pipeline pipeline s) (subst (λ t. Rising (names_of t)) (sym (with-parts pipeline s)) r))
+    (adds_rising all (with_pipeline pipeline s) (subst (λ t. IsInByteOrder (names_of t)) (sym (with-parts pipeline s)) r))
 
-pub next_rising : (s : State) (pipeline : List ℕ) (units : List WorkUnit) (verdicts : List Verdict) (policy : CommitPolicy) → Rising (names_of s.parts) → Rising (names_of (next_state s pipeline units verdicts policy).parts)
+pub next_rising : (s : State) (pipeline : List ℕ) (units : List WorkUnit) (verdicts : List Verdict) (policy : CommitPolicy) → IsInByteOrder (names_of s.parts) → IsInByteOrder (names_of (next_state s pipeline units verdicts policy).parts)
 unfolding next_state
 next_rising s pipeline units verdicts policy r = committed_rising s pipeline (zip units verdicts) (allowed_units policy (zip units verdicts)) r

@@ -8,14 +8,14 @@ use Rattle.std.specs.Str.{bytes_eq}
 use Rattle.std.proofs.lemmas.Bool.{and_parts, and_from, ltb-true, ltb-false, lt-ltb, eqb-true}
 use Rattle.std.proofs.lemmas.List.Elements.{Contains-append_right, Contains-append_cases, filter-append, All-contains}
 use Rattle.gob_bytes.specs.Lines.{line_ends}
-use Rattle.gob_bytes.specs.Tables.{Table, at_name, names_of, name_cmp, Rising}
+use Rattle.gob_bytes.specs.Tables.{Table, at_name, names_of, name_cmp, IsInByteOrder}
 use Rattle.gob_bytes.proofs.Tables.{same_name, name_itself, two_names, less_apart, less_then, rising_tail, at_from_member, none_below, at_head, at_tail}
 use Rattle.gob_device.specs.Supply.{Held}
 use Rattle.gob_plan.specs.declared.plan.Limits.{Limits}
 use Rattle.gob_plan.specs.declared.units.Unit.{Unit as WorkUnit}
 use Rattle.gob_ledger.specs.Marks.{Marks, Span, Tiled, done_spans, spans_of, has, InOrder}
 use Rattle.gob_ledger.specs.State.{State, marks_at, TiledState}
-use Rattle.gob_ledger.specs.Units.{cut_end, then_cuts, cuts, is_kept, next_of, span_of, new_unit, cuts_of, in_rounds, kept_parts, all_cuts, owed_unit, owed_units, new_units, units_of_parts, units_of, Follow, fresh_in, same_span, same_unit, IsOwed}
+use Rattle.gob_ledger.specs.Units.{cut_end, then_cuts, cuts, is_kept, next_of, span_of, new_unit, cuts_of, in_rounds, kept_parts, all_cuts, owed_unit, owed_units, new_units, units_of_parts, units_of, AreAdjacentFrom, fresh_in, same_span, same_unit, IsOwed}
 use Rattle.gob_ledger.specs.Archive.{IsLineStart, LiesOnLines, LiesIn, IsWithin}
 use Rattle.gob_ledger.specs.Laws.{UnitsFitState, UnitsLieOnLines}
 use Rattle.gob_ledger.proofs.Members.{none_in, first_in, later_in, in_cases, in_filter, filter_in, in_map, in_flat_map}
@@ -44,16 +44,16 @@ cut_gives ends lo max hi e = ⊎_elim
 abbrev new_all : List ℕ → List Span → List WorkUnit
 new_all part ss = map (new_unit part) ss
 
-cuts_follow : (k : ℕ) (ends : List ℕ) (max lo : ℕ) (part : List ℕ) → Follow lo (new_all part (cuts k ends max lo))
+cuts_follow : (k : ℕ) (ends : List ℕ) (max lo : ℕ) (part : List ℕ) → AreAdjacentFrom lo (new_all part (cuts k ends max lo))
 cuts_follow zero ends max lo part = tt
 cuts_follow (suc k) ends max lo part = cases (cut_end ends lo max) refl (λ hi. cuts_follow k ends max hi part)
   where
-    cases : (o : Option ℕ) → cut_end ends lo max ≡ o → ((hi : ℕ) → Follow hi (new_all part (cuts k ends max hi))) → Follow lo (new_all part (then_cuts lo o (cuts k ends max)))
+    cases : (o : Option ℕ) → cut_end ends lo max ≡ o → ((hi : ℕ) → AreAdjacentFrom hi (new_all part (cuts k ends max hi))) → AreAdjacentFrom lo (new_all part (then_cuts lo o (cuts k ends max)))
     cases None e later = tt
     cases (Some hi) e later = (refl, (cut_gives ends lo max hi e).1, later hi)
 
 -- a cut begins where the first did or at a line end, and ends at one
-cuts_lie : (k : ℕ) (ends : List ℕ) (max lo : ℕ) (s : Span) → Contains (cuts k ends max lo) s → ((s.lo ≡ lo) ⊎ Contains ends s.lo) × Contains ends s.hi
+pub cuts_lie : (k : ℕ) (ends : List ℕ) (max lo : ℕ) (s : Span) → Contains (cuts k ends max lo) s → ((s.lo ≡ lo) ⊎ Contains ends s.lo) × Contains ends s.hi
 cuts_lie zero ends max lo s h = none_in s h
 cuts_lie (suc k) ends max lo s h = cases (cut_end ends lo max) refl h (λ hi l. cuts_lie k ends max hi s l)
   where
@@ -66,7 +66,7 @@ cuts_lie (suc k) ends max lo s h = cases (cut_end ends lo max) refl h (λ hi l. 
 
 -- ---- fronts
 
-follow_take : (from n : ℕ) (us : List WorkUnit) → Follow from us → Follow from (take n us)
+follow_take : (from n : ℕ) (us : List WorkUnit) → AreAdjacentFrom from us → AreAdjacentFrom from (take n us)
 follow_take from zero us f = tt
 follow_take from (suc n) [] f = tt
 follow_take from (suc n) (u ∷ us) (a, b, c) = (a, b, follow_take u.hi n us c)
@@ -134,7 +134,7 @@ turned x y e = elim (bytes_eq y x) as (λ b. bytes_eq y x ≡ b → b ≡ false)
   | false ↦ λ f. refl
 ] refl
 
-entries_pick : (parts : Table Marks) (limits : Limits) (es : Held) (q : List ℕ) (k : ℕ) → Rising (names_of es) → flat_map (λ e. cond (bytes_eq e.0 q) (pick k (cuts_of parts limits e)) []) es ≡ pick k (cuts_at parts limits es q)
+entries_pick : (parts : Table Marks) (limits : Limits) (es : Held) (q : List ℕ) (k : ℕ) → IsInByteOrder (names_of es) → flat_map (λ e. cond (bytes_eq e.0 q) (pick k (cuts_of parts limits e)) []) es ≡ pick k (cuts_at parts limits es q)
 entries_pick parts limits [] q k rising = refl
 entries_pick parts limits (e ∷ es) q k rising = cases (bytes_eq e.0 q) refl (entries_pick parts limits es q k (rising_tail e.0 (names_of es) rising))
   where
@@ -156,7 +156,7 @@ flat_over_map f g [] = refl
 flat_over_map f g (x ∷ xs) = ap (λ ys. f (g x) ++ ys) (flat_over_map f g xs)
 
 -- the rounds, seen from one partition, are its cuts
-rounds_in : (parts : Table Marks) (limits : Limits) (kept : Held) (q : List ℕ) (n : ℕ) → Rising (names_of kept) → filter (is_new_in q) (in_rounds n (map (cuts_of parts limits) kept)) ≡ take n (cuts_at parts limits kept q)
+rounds_in : (parts : Table Marks) (limits : Limits) (kept : Held) (q : List ℕ) (n : ℕ) → IsInByteOrder (names_of kept) → filter (is_new_in q) (in_rounds n (map (cuts_of parts limits) kept)) ≡ take n (cuts_at parts limits kept q)
 rounds_in parts limits kept q n rising =
     filter_flat (is_new_in q) (λ k. flat_map (pick k) (map (cuts_of parts limits) kept)) (range_with_len 0 n)
     ∙ (flat_same (λ k. filter (is_new_in q) (flat_map (pick k) (map (cuts_of parts limits) kept))) (λ k. pick k (cuts_at parts limits kept q)) (range_with_len 0 n) one_round
@@ -177,25 +177,25 @@ rounds_in parts limits kept q n rising =
 
 -- ---- order of names through a filter
 
-rising_under : {X : Type 0} (p : List ℕ × X → Bool) (t : Table X) (low : List ℕ) → Rising (low ∷ names_of t) → Rising (low ∷ names_of (filter p t))
+rising_under : {X : Type 0} (p : List ℕ × X → Bool) (t : Table X) (low : List ℕ) → IsInByteOrder (low ∷ names_of t) → IsInByteOrder (low ∷ names_of (filter p t))
 rising_under p [] low rising = tt
-rising_under {X} p (e ∷ es) low rising = elim (p e) as (λ b. Rising (low ∷ names_of (cond b (e ∷ filter p es) (filter p es)))) [
+rising_under {X} p (e ∷ es) low rising = elim (p e) as (λ b. IsInByteOrder (low ∷ names_of (cond b (e ∷ filter p es) (filter p es)))) [
   | true ↦ (rising.0, rising_under p es e.0 rising.1)
   | false ↦ rising_under p es low (lower es rising)
 ]
   where
-    lower : (ds : Table X) → (name_cmp low e.0 ≡ Less) × Rising (e.0 ∷ names_of ds) → Rising (low ∷ names_of ds)
+    lower : (ds : Table X) → (name_cmp low e.0 ≡ Less) × IsInByteOrder (e.0 ∷ names_of ds) → IsInByteOrder (low ∷ names_of ds)
     lower [] r = tt
     lower (d ∷ ds) r = (less_then low e.0 d.0 r.0 r.1.0, r.1.1)
 
-rising_filter : {X : Type 0} (p : List ℕ × X → Bool) (t : Table X) → Rising (names_of t) → Rising (names_of (filter p t))
+pub rising_filter : {X : Type 0} (p : List ℕ × X → Bool) (t : Table X) → IsInByteOrder (names_of t) → IsInByteOrder (names_of (filter p t))
 rising_filter p [] rising = tt
-rising_filter p (e ∷ es) rising = elim (p e) as (λ b. Rising (names_of (cond b (e ∷ filter p es) (filter p es)))) [
+rising_filter p (e ∷ es) rising = elim (p e) as (λ b. IsInByteOrder (names_of (cond b (e ∷ filter p es) (filter p es)))) [
   | true ↦ rising_under p es e.0 rising
   | false ↦ rising_filter p es (rising_tail e.0 (names_of es) rising)
 ]
 
-below_all : {X : Type 0} (t : Table X) (low : List ℕ) (e : List ℕ × X) → Rising (low ∷ names_of t) → Contains t e → name_cmp low e.0 ≡ Less
+below_all : {X : Type 0} (t : Table X) (low : List ℕ) (e : List ℕ × X) → IsInByteOrder (low ∷ names_of t) → Contains t e → name_cmp low e.0 ≡ Less
 below_all [] low e rising h = none_in e h
 below_all {X} (d ∷ ds) low e rising h = ⊎_elim
     (λ same. subst (λ (x : List ℕ × X). name_cmp low x.0 ≡ Less) same rising.0)
@@ -215,14 +215,15 @@ pick_in zero (v ∷ us) u h = ⊎_elim (λ e. first_in v us u e) (λ l. none_in 
 pick_in (suc k) (v ∷ us) u h = later_in v us u (pick_in k us u h)
 
 -- a new unit is a cut of a kept partition
-record NewCut (parts : Table Marks) (held : Held) (limits : Limits) (u : WorkUnit) : Type 0 where
-  entry : List ℕ × List ℕ
-  kept : Contains held entry
-  span : Span
-  cut : Contains (cuts (length (line_ends entry.1)) (line_ends entry.1) limits.max_bytes (next_of parts entry.0)) span
-  is : new_unit entry.0 span ≡ u
+pub record NewCut (parts : Table Marks) (held : Held) (limits : Limits) (u : WorkUnit) : Type 0 where
+  pub entry : List ℕ × List ℕ
+  pub kept : Contains held entry
+  pub taken : is_kept limits entry.0 ≡ true
+  pub span : Span
+  pub cut : Contains (cuts (length (line_ends entry.1)) (line_ends entry.1) limits.max_bytes (next_of parts entry.0)) span
+  pub is : new_unit entry.0 span ≡ u
 
-new_member : (parts : Table Marks) (held : Held) (limits : Limits) (u : WorkUnit) → Contains (new_units parts held limits) u → NewCut parts held limits u
+pub new_member : (parts : Table Marks) (held : Held) (limits : Limits) (u : WorkUnit) → Contains (new_units parts held limits) u → NewCut parts held limits u
 new_member parts held limits u h =
     let lists = all_cuts parts held limits in
     let rounds = length (flat_map (λ (xs : List WorkUnit). xs) lists) in
@@ -231,16 +232,17 @@ new_member parts held limits u h =
     let c = in_map (cuts_of parts limits) (kept_parts limits held) b.0 b.1 in
     let there : Contains (cuts_of parts limits c.0) u = subst (λ us. Contains us u) (sym c.2) (pick_in a.0 b.0 u b.2) in
     let d = in_map (new_unit c.0.0) (cuts (length (line_ends c.0.1)) (line_ends c.0.1) limits.max_bytes (next_of parts c.0.0)) u there in
-    record { entry = c.0; kept = (in_filter (λ e. is_kept limits e.0) held c.0 c.1).0; span = d.0; cut = d.1; is = d.2 }
+    let e = in_filter (λ e. is_kept limits e.0) held c.0 c.1 in
+    record { entry = c.0; kept = e.0; taken = e.1; span = d.0; cut = d.1; is = d.2 }
 
-record OldRange (parts : Table Marks) (held : Held) (limits : Limits) (u : WorkUnit) : Type 0 where
-  entry : List ℕ × Marks
-  there : Contains parts entry
-  span : Span
-  owed : Contains entry.1.owed span
-  is : owed_unit held limits entry.0 span ≡ u
+pub record OldRange (parts : Table Marks) (held : Held) (limits : Limits) (u : WorkUnit) : Type 0 where
+  pub entry : List ℕ × Marks
+  pub there : Contains parts entry
+  pub span : Span
+  pub owed : Contains entry.1.owed span
+  pub is : owed_unit held limits entry.0 span ≡ u
 
-old_member : (parts : Table Marks) (held : Held) (limits : Limits) (u : WorkUnit) → Contains (owed_units parts held limits) u → OldRange parts held limits u
+pub old_member : (parts : Table Marks) (held : Held) (limits : Limits) (u : WorkUnit) → Contains (owed_units parts held limits) u → OldRange parts held limits u
 old_member parts held limits u h =
     let a = in_flat_map (λ e. map (owed_unit held limits e.0) e.1.owed) parts u h in
     let b = in_map (owed_unit held limits a.0.0) a.0.1.owed u a.2 in
@@ -272,7 +274,7 @@ other_lo u v below = elim (same_unit u v) as (λ b. same_unit u v ≡ b → b �
   | false ↦ λ e. refl
 ] refl
 
-pub follow_above : (from : ℕ) (us : List WorkUnit) (u : WorkUnit) → Follow from us → Contains us u → (from ≤ u.lo) × (u.lo < u.hi)
+pub follow_above : (from : ℕ) (us : List WorkUnit) (u : WorkUnit) → AreAdjacentFrom from us → Contains us u → (from ≤ u.lo) × (u.lo < u.hi)
 follow_above from [] u f h = none_in u h
 follow_above from (v ∷ vs) u (a, b, c) h = ⊎_elim
     (λ same. subst (λ (x : WorkUnit). (from ≤ x.lo) × (x.lo < x.hi)) same (omega arith, b))
@@ -281,7 +283,7 @@ follow_above from (v ∷ vs) u (a, b, c) h = ⊎_elim
 
 -- units that are all fresh, and in each partition follow each other, are distinct
 abbrev Runs : List WorkUnit → Type 0
-Runs us = (q : List ℕ) → (from : ℕ) × Follow from (fresh_in q us)
+Runs us = (q : List ℕ) → (from : ℕ) × AreAdjacentFrom from (fresh_in q us)
 
 runs_distinct : (us : List WorkUnit) → ((u : WorkUnit) → Contains us u → u.fresh ≡ true) → Runs us → IsDistinct same_unit us
 unfolding IsDistinct
@@ -291,13 +293,13 @@ runs_distinct (u ∷ us) fresh runs = (all_apart us (λ v h. h), runs_distinct u
     test : (b : Bool) (q : List ℕ) → bytes_eq u.part q ≡ b → fresh_in q (u ∷ us) ≡ cond b (u ∷ fresh_in q us) (fresh_in q us)
     test b q e = ap (λ v. cond v (u ∷ fresh_in q us) (fresh_in q us)) (ap (λ v. v && bytes_eq u.part q) (fresh u (first_in u us u refl)) ∙ e)
 
-    here : Follow (runs u.part).0 (u ∷ fresh_in u.part us)
-    here = subst (Follow (runs u.part).0) (test true u.part (name_itself u.part)) (runs u.part).1
+    here : AreAdjacentFrom (runs u.part).0 (u ∷ fresh_in u.part us)
+    here = subst (AreAdjacentFrom (runs u.part).0) (test true u.part (name_itself u.part)) (runs u.part).1
 
     rest : Runs us
-    rest q = elim (bytes_eq u.part q) as (λ b. bytes_eq u.part q ≡ b → (from : ℕ) × Follow from (fresh_in q us)) [
-      | true ↦ λ e. (u.hi, (subst (Follow (runs q).0) (test true q e) (runs q).1).2)
-      | false ↦ λ e. ((runs q).0, subst (Follow (runs q).0) (test false q e) (runs q).1)
+    rest q = elim (bytes_eq u.part q) as (λ b. bytes_eq u.part q ≡ b → (from : ℕ) × AreAdjacentFrom from (fresh_in q us)) [
+      | true ↦ λ e. (u.hi, (subst (AreAdjacentFrom (runs q).0) (test true q e) (runs q).1).2)
+      | false ↦ λ e. ((runs q).0, subst (AreAdjacentFrom (runs q).0) (test false q e) (runs q).1)
     ] refl
 
     apart : (v : WorkUnit) → Contains us v → same_unit u v ≡ false
@@ -326,7 +328,7 @@ owed_distinct held limits part from (s ∷ ss) (a, b, c) = (all_apart ss (λ t h
       all_apart ts (λ x h. sub x (later_in t ts x h)),
     )
 
-owed_all_distinct : (held : Held) (limits : Limits) (parts : Table Marks) → Rising (names_of parts) → ((e : List ℕ × Marks) → Contains parts e → InOrder 0 e.1.owed) → IsDistinct same_unit (owed_units parts held limits)
+owed_all_distinct : (held : Held) (limits : Limits) (parts : Table Marks) → IsInByteOrder (names_of parts) → ((e : List ℕ × Marks) → Contains parts e → InOrder 0 e.1.owed) → IsDistinct same_unit (owed_units parts held limits)
 unfolding IsDistinct
 owed_all_distinct held limits [] rising order = tt
 owed_all_distinct held limits (e ∷ es) rising order =
@@ -350,20 +352,20 @@ no_fresh held limits q (e ∷ es) = filter-append (is_new_in q) (map (owed_unit 
     ∙ λ i. none_fresh held limits q e.0 e.1.owed i ++ no_fresh held limits q es i
 
 -- the new units of one partition follow each other from its next
-new_follow : (parts : Table Marks) (held : Held) (limits : Limits) (q : List ℕ) → Rising (names_of held) → Follow (next_of parts q) (fresh_in q (new_units parts held limits))
+pub new_follow : (parts : Table Marks) (held : Held) (limits : Limits) (q : List ℕ) → IsInByteOrder (names_of held) → AreAdjacentFrom (next_of parts q) (fresh_in q (new_units parts held limits))
 new_follow parts held limits q rising =
     let lists = all_cuts parts held limits in
     let rounds = length (flat_map (λ (xs : List WorkUnit). xs) lists) in
     let cut = filter_take (is_new_in q) limits.max_new_units (in_rounds rounds lists) in
     let all = rounds_in parts limits (kept_parts limits held) q rounds (rising_filter (λ e. is_kept limits e.0) held rising) in
-    subst (Follow (next_of parts q)) (sym (cut.1 ∙ ap (take cut.0) all))
+    subst (AreAdjacentFrom (next_of parts q)) (sym (cut.1 ∙ ap (take cut.0) all))
     (follow_take (next_of parts q) cut.0 _ (follow_take (next_of parts q) rounds (cuts_at parts limits (kept_parts limits held) q) (at_follow (at_name (kept_parts limits held) q))))
   where
-    at_follow : (o : Option (List ℕ)) → Follow (next_of parts q) (unwrap_or (option_map (λ bytes. cuts_of parts limits (q, bytes)) o) [])
+    at_follow : (o : Option (List ℕ)) → AreAdjacentFrom (next_of parts q) (unwrap_or (option_map (λ bytes. cuts_of parts limits (q, bytes)) o) [])
     at_follow None = tt
     at_follow (Some bytes) = cuts_follow (length (line_ends bytes)) (line_ends bytes) limits.max_bytes (next_of parts q) q
 
-next_at : (s : State) (part : List ℕ) (m : Marks) → marks_at s part ≡ Some m → next_of s.parts part ≡ m.next
+pub next_at : (s : State) (part : List ℕ) (m : Marks) → marks_at s part ≡ Some m → next_of s.parts part ≡ m.next
 next_at s part m e = ap (λ o. unwrap_or (option_map (λ (x : Marks). x.next) o) 0) e
 
 pub units_fit : UnitsFitState
@@ -374,7 +376,7 @@ units_fit s held limits tiled rising order = record {
       (runs_distinct (new_units s.parts held limits) fresh (λ q. (next_of s.parts q, new_follow s.parts held limits q order)))
       cross;
   owed = λ u h old. ⊎_elim (λ k. is_owed u k) (λ k. absurd (let f : u.fresh ≡ true = fresh u k in cc)) (Contains-append_cases (owed_units s.parts held limits) (new_units s.parts held limits) u h);
-  fresh = λ q. subst (Follow (next_of s.parts q)) (sym (filter-append (is_new_in q) (owed_units s.parts held limits) (new_units s.parts held limits) ∙ ap (λ us. us ++ fresh_in q (new_units s.parts held limits)) (no_fresh held limits q s.parts))) (new_follow s.parts held limits q order);
+  fresh = λ q. subst (AreAdjacentFrom (next_of s.parts q)) (sym (filter-append (is_new_in q) (owed_units s.parts held limits) (new_units s.parts held limits) ∙ ap (λ us. us ++ fresh_in q (new_units s.parts held limits)) (no_fresh held limits q s.parts))) (new_follow s.parts held limits q order);
 }
   where
     fresh : (u : WorkUnit) → Contains (new_units s.parts held limits) u → u.fresh ≡ true
@@ -401,7 +403,7 @@ units_fit s held limits tiled rising order = record {
 
 -- ---- whole lines
 
-times_gives : (at : ℕ) (ss : List Span) → 1 ≤ times at ss → (s : Span) × Contains ss s × (has at s ≡ true)
+pub times_gives : (at : ℕ) (ss : List Span) → 1 ≤ times at ss → (s : Span) × Contains ss s × (has at s ≡ true)
 times_gives at [] some = absurd (omega (arith, some))
 times_gives at (s ∷ ss) some = cases (has at s) refl some (times_gives at ss)
   where

@@ -11,16 +11,16 @@ use Rattle.gob_plan.specs.declared.plan.CommitPolicy.{CommitPolicy}
 use Rattle.gob_plan.specs.declared.plan.Plan.{Plan}
 use Rattle.gob_plan.specs.declared.units.Unit.{Unit as WorkUnit}
 use Rattle.gob_meaning.specs.Results.{Verdict}
-use Rattle.gob_meaning.specs.Job.{plan_of}
 use Rattle.gob_ledger.specs.Marks.{Marks, Span, Done}
 use Rattle.gob_ledger.specs.State.{State, marks_at, TiledState}
 use Rattle.gob_ledger.specs.Units.{span_of}
-use Rattle.gob_ledger.specs.Next.{Judged, no_marks, with_owed, with_done, change_part, add_unit, finish_unit, fold_units, with_pipeline, pipeline_index, committed_or, allowed_units, next_state}
+use Rattle.gob_ledger.specs.Next.{Judged, no_marks, with_owed, with_done, change_part, add_unit, finish_unit, fold_units, with_pipeline, pipeline_index, state_with_commit_or, allowed_units, next_state}
 use Rattle.gob_ledger.specs.Expected.{IsMade, IsExpected, IsPublished, bytes_in}
 use Rattle.gob_ledger.specs.Laws.{NextExpects}
 use Rattle.gob_ledger.proofs.Members.{none_in, first_in, later_in, in_cases}
-use Rattle.gob_ledger.proofs.Changes.{marks_or, marks_or-at, changed_cases, at_itself, at_other, adds-pipelines, finishes-pipelines, with-parts, pipeline_there, pipeline_stays}
+use Rattle.gob_ledger.proofs.Changes.{marks_or, marks_or-at, changed_cases, at_itself, at_other, adds-pipelines, finishes-pipelines, with-parts, pipeline_there, pipeline_stays, pipeline_kept}
 use Rattle.gob_ledger.proofs.Tiling.{in_insert, insert_in}
+use Rattle.gob_jobs.specs.Plans.{plan_of}
 
 -- a partition has this done range
 abbrev pub HasDone : State → List ℕ → Done → Type 0
@@ -134,7 +134,7 @@ from_done job s archive name content part d pipeline plan path h at is made call
 }
 
 committed_expects : (job : List ℕ) (s : State) (pipeline : List ℕ) (plan : Plan) (archive : Held) (name content : List ℕ) (all done : List Judged) → TiledState s → plan_of pipeline ≡ Some plan
-    → IsExpected job (committed_or s pipeline all done) archive name content ↔ (IsExpected job s archive name content ⊎ IsPublished job plan archive done name content)
+    → IsExpected job (state_with_commit_or s pipeline all done) archive name content ↔ (IsExpected job s archive name content ⊎ IsPublished job plan archive done name content)
 committed_expects job s pipeline plan archive name content all [] tiled is = (λ e. inl e, λ e. ⊎_elim (λ x. x) (λ x. none_in x.unit x.of_units) e)
 committed_expects job s pipeline plan archive name content all (d ∷ ds) tiled is = (there, back)
   where
@@ -144,7 +144,7 @@ committed_expects job s pipeline plan archive name content all (d ∷ ds) tiled 
     pipes : t.pipelines ≡ (with_pipeline pipeline s).pipelines
     pipes = finishes-pipelines (pipeline_index pipeline s) (d ∷ ds) (fold_units add_unit (with_pipeline pipeline s) all) ∙ adds-pipelines all (with_pipeline pipeline s)
 
-    there : IsExpected job (committed_or s pipeline all (d ∷ ds)) archive name content → IsExpected job s archive name content ⊎ IsPublished job plan archive (d ∷ ds) name content
+    there : IsExpected job (state_with_commit_or s pipeline all (d ∷ ds)) archive name content → IsExpected job s archive name content ⊎ IsPublished job plan archive (d ∷ ds) name content
     there e = ⊎_elim
         (λ h.
         let old = adds_has all (with_pipeline pipeline s) e.part e.done h in
@@ -164,7 +164,7 @@ committed_expects job s pipeline plan archive name content all (d ∷ ds) tiled 
         inr (record { unit = u.0; of_units = u.1; path = e.path; made = made; called = e.called }))
         (finishes_has (pipeline_index pipeline s) (d ∷ ds) (fold_units add_unit (with_pipeline pipeline s) all) e.part e.done (e.marks, e.of_part, e.of_marks))
 
-    back : IsExpected job s archive name content ⊎ IsPublished job plan archive (d ∷ ds) name content → IsExpected job (committed_or s pipeline all (d ∷ ds)) archive name content
+    back : IsExpected job s archive name content ⊎ IsPublished job plan archive (d ∷ ds) name content → IsExpected job (state_with_commit_or s pipeline all (d ∷ ds)) archive name content
     back (inl e) =
         let h = has_finishes (pipeline_index pipeline s) (d ∷ ds) (fold_units add_unit (with_pipeline pipeline s) all) e.part e.done
         (has_adds all (with_pipeline pipeline s) e.part e.done (e.marks, ap (λ ps. at_name ps e.part) (with-parts pipeline s) ∙ e.of_part, e.of_marks)) in
@@ -203,7 +203,7 @@ pub expects : NextExpects
 unfolding next_state
 expects job s pipeline plan units verdicts policy archive name content tiled is = committed_expects job s pipeline plan archive name content (zip units verdicts) (allowed_units policy (zip units verdicts)) tiled is
 
-committed_has : (s : State) (pipeline : List ℕ) (all done : List Judged) (j : Judged) → Contains done j → HasDone (committed_or s pipeline all done) j.0.part (done_by (pipeline_index pipeline s) j)
+committed_has : (s : State) (pipeline : List ℕ) (all done : List Judged) (j : Judged) → Contains done j → HasDone (state_with_commit_or s pipeline all done) j.0.part (done_by (pipeline_index pipeline s) j)
 committed_has s pipeline all [] j h = none_in j h
 committed_has s pipeline all (d ∷ ds) j h = unit_finishes (pipeline_index pipeline s) (d ∷ ds) (fold_units add_unit (with_pipeline pipeline s) all) j h
 
@@ -213,9 +213,9 @@ pub done_has : (s : State) (pipeline : List ℕ) (units : List WorkUnit) (verdic
 unfolding next_state
 done_has s pipeline units verdicts policy j h = committed_has s pipeline (zip units verdicts) (allowed_units policy (zip units verdicts)) j h
 
-committed_keeps : (job : List ℕ) (s : State) (pipeline : List ℕ) (archive : Held) (name content : List ℕ) (all done : List Judged) → TiledState s → IsExpected job s archive name content → IsExpected job (committed_or s pipeline all done) archive name content
-committed_keeps job s pipeline archive name content all [] tiled e = e
-committed_keeps job s pipeline archive name content all (d ∷ ds) tiled e =
+committed_keeps : (job : List ℕ) (s : State) (pipeline : List ℕ) (archive : Held) (name content : List ℕ) (all done : List Judged) → IsExpected job s archive name content → IsExpected job (state_with_commit_or s pipeline all done) archive name content
+committed_keeps job s pipeline archive name content all [] e = e
+committed_keeps job s pipeline archive name content all (d ∷ ds) e =
     let p = pipeline_index pipeline s in
     let start = with_pipeline pipeline s in
     let h = has_finishes p (d ∷ ds) (fold_units add_unit start all) e.part e.done
@@ -228,7 +228,7 @@ committed_keeps job s pipeline archive name content all (d ∷ ds) tiled e =
       done = e.done;
       of_marks = h.2;
       pipeline = e.pipeline;
-      of_state = ap (λ ps. slice_get ps e.done.pipeline) pipes ∙ (pipeline_stays pipeline s e.done.pipeline (tiled.indexed e.part e.marks e.done e.of_part e.of_marks) ∙ e.of_state);
+      of_state = ap (λ ps. slice_get ps e.done.pipeline) pipes ∙ pipeline_kept pipeline s e.done.pipeline e.pipeline e.of_state;
       plan = e.plan;
       of_pipeline = e.of_pipeline;
       path = e.path;
@@ -236,7 +236,7 @@ committed_keeps job s pipeline archive name content all (d ∷ ds) tiled e =
       called = e.called;
     }
 
-committed_done : (s : State) (pipeline : List ℕ) (all done : List Judged) (part : List ℕ) (d : Done) → HasDone s part d → HasDone (committed_or s pipeline all done) part d
+committed_done : (s : State) (pipeline : List ℕ) (all done : List Judged) (part : List ℕ) (d : Done) → HasDone s part d → HasDone (state_with_commit_or s pipeline all done) part d
 committed_done s pipeline all [] part d h = h
 committed_done s pipeline all (j ∷ js) part d h =
     has_finishes (pipeline_index pipeline s) (j ∷ js) (fold_units add_unit (with_pipeline pipeline s) all) part d
@@ -244,9 +244,9 @@ committed_done s pipeline all (j ∷ js) part d h =
 
 -- what was expected still is after a run
 pub next_keeps : (job : List ℕ) (s : State) (pipeline : List ℕ) (units : List WorkUnit) (verdicts : List Verdict) (policy : CommitPolicy) (archive : Held) (name content : List ℕ)
-    → TiledState s → IsExpected job s archive name content → IsExpected job (next_state s pipeline units verdicts policy) archive name content
+    → IsExpected job s archive name content → IsExpected job (next_state s pipeline units verdicts policy) archive name content
 unfolding next_state
-next_keeps job s pipeline units verdicts policy archive name content tiled e = committed_keeps job s pipeline archive name content (zip units verdicts) (allowed_units policy (zip units verdicts)) tiled e
+next_keeps job s pipeline units verdicts policy archive name content e = committed_keeps job s pipeline archive name content (zip units verdicts) (allowed_units policy (zip units verdicts)) e
 
 -- what was done still is
 pub next_done : (s : State) (pipeline : List ℕ) (units : List WorkUnit) (verdicts : List Verdict) (policy : CommitPolicy) (part : List ℕ) (d : Done) → HasDone s part d → HasDone (next_state s pipeline units verdicts policy) part d

@@ -4,13 +4,13 @@ use Rattle.std.specs.List.{Contains, flat_map}
 use Rattle.std.proofs.lemmas.List.{take-append-le, drop-append-le, map-append, length-drop}
 use Rattle.std.proofs.lemmas.List.Elements.{Contains-append_left, All-weaker}
 use Rattle.gob_bytes.specs.Lines.{line_ends, lines, end_of}
-use Rattle.gob_bytes.specs.Tables.{at_name, names_of, Rising}
+use Rattle.gob_bytes.specs.Tables.{at_name, names_of, IsInByteOrder}
 use Rattle.gob_bytes.proofs.Cuts.{lines_join}
 use Rattle.gob_bytes.proofs.Tables.{at_from_member}
 use Rattle.std.specs.declared.option.Option.{Option}
 use Rattle.gob_plan.specs.declared.plan.Plan.{Plan}
 use Rattle.gob_meaning.specs.Fold.{unit_fold, counts_of}
-use Rattle.gob_device.specs.Supply.{Held, given, bytes_at}
+use Rattle.gob_device.specs.Supply.{Held, bytes_from, bytes_at}
 use Rattle.gob_ledger.specs.Marks.{Marks, Span, Done}
 use Rattle.gob_ledger.specs.State.{State, marks_at, TiledState}
 use Rattle.gob_ledger.specs.Archive.{Grows, IsLineStart, LiesOnLines, LiesIn, IsWithin}
@@ -43,7 +43,7 @@ front_reads_same x y lo len fits =
 
 -- a range that lies in the archive has the same bytes in the later one
 pub bytes_stay : (archive later : Held) (part bytes : List ℕ) (s : Span) → Grows archive later → at_name archive part ≡ Some bytes → s.lo < s.hi → s.hi ≤ length bytes → bytes_in later part s ≡ bytes_in archive part s
-unfolding given
+unfolding bytes_from
 bytes_stay archive later part bytes s grows at some fits =
     let g = grows part bytes at in
     let new : bytes_at later part ≡ bytes ++ g.0 = ap (λ o. unwrap_or o []) g.1 in
@@ -69,7 +69,7 @@ where_alike : (o : Option Plan) (archive later : Held) (part : List ℕ) (s : Sp
 where_alike None archive later part s same = refl
 where_alike (Some plan) archive later part s same = ap (λ b. counts_of plan (unit_fold plan s.lo b)) same
 
-counted_stays : (archive later : Held) (s : State) → Grows archive later → IsWithin archive s → TiledState s → Rising (names_of s.parts) → counted_in s later ≡ counted_in s archive
+counted_stays : (archive later : Held) (s : State) → Grows archive later → IsWithin archive s → TiledState s → IsInByteOrder (names_of s.parts) → counted_in s later ≡ counted_in s archive
 unfolding counted_in
 counted_stays archive later s grows within tiled rising =
     ap sum_counts (flat_map_alike (part_counts s.pipelines later) (part_counts s.pipelines archive) s.parts

@@ -1,25 +1,25 @@
 -- A state that has a spelling has one after a run.
 use Rattle.std.proofs.Common.{◌≡◌, ⊎_elim, ℕ, zero, suc, ◌+◌, ◌<◌, ◌≤◌, ◌^◌, Bool, true, false, cond, ◌&&◌, ◌||◌, List, [], ◌∷◌, ◌++◌, length, All, refl, sym, ap, subst, ◌∙◌, Some, None, arith}
 use Rattle.std.specs.declared.option.Option.{Option}
-use Rattle.std.specs.List.{Contains, IsDistinct, filter, list_any, zip}
+use Rattle.std.specs.List.{AllByRecursion, Contains, IsDistinct, filter, list_any, zip}
 use Rattle.std.specs.Str.{bytes_eq}
 use Rattle.std.proofs.lemmas.Bool.{and_from}
-use Rattle.std.proofs.lemmas.List.Elements.{All-cons, All-tail}
-use Rattle.gob_bytes.specs.Tables.{names_of, Rising}
-use Rattle.gob_bytes.proofs.Tables.{name_itself}
+use Rattle.std.proofs.lemmas.List.Elements.{All-nil, All-cons, All-tail, All-append}
+use Rattle.gob_bytes.specs.Tables.{at_name, names_of, IsInByteOrder}
+use Rattle.gob_bytes.proofs.Tables.{name_itself, same_name}
 use Rattle.gob_plan.specs.declared.units.BranchCounts.{BranchCounts}
 use Rattle.gob_plan.specs.declared.units.Counts.{Counts}
 use Rattle.gob_plan.specs.declared.units.Unit.{Unit as WorkUnit}
-use Rattle.gob_meaning.specs.Fold.{capped}
+use Rattle.gob_meaning.specs.Fold.{saturate_u64}
 use Rattle.gob_meaning.specs.Sums.{both_branches, branch_sums, sum_of}
 use Rattle.gob_ledger.specs.Marks.{Marks}
 use Rattle.gob_ledger.specs.State.{State, marks_at, TiledState}
-use Rattle.gob_ledger.specs.Units.{span_of, same_unit, next_of, fresh_in, Follow, IsOwed, UnitsFit}
-use Rattle.gob_ledger.specs.Next.{Judged, with_owed, with_done, change_part, add_unit, finish_unit, fold_units, counts_in, plus, with_pipeline, pipeline_index, committed_or, allowed_units, next_state}
-use Rattle.gob_ledger.specs.Spelling.{IsPipeline, SmallBranch, SmallCounts, ProperPart, Proper}
+use Rattle.gob_ledger.specs.Units.{span_of, same_unit, next_of, fresh_in, AreAdjacentFrom, IsOwed, UnitsFit}
+use Rattle.gob_ledger.specs.Next.{Judged, with_owed, with_done, change_part, add_unit, finish_unit, fold_units, counts_in, plus, with_pipeline, pipeline_index, state_with_commit_or, allowed_units, next_state}
+use Rattle.gob_ledger.specs.Spelling.{Small, SmallBranch, SmallCounts, ProperPart, Proper, IsKeptPipeline}
 use Rattle.gob_ledger.specs.Laws.{ProperUnit, ProperCounts, NextIsProper}
 use Rattle.gob_ledger.proofs.Members.{first_in, later_in, filter_in}
-use Rattle.gob_ledger.proofs.Changes.{marks_or, marks_or-at, changed_cases, all_member, units_in, units_of_zip, adds-pipelines, finishes-pipelines, with-parts, next_rising}
+use Rattle.gob_ledger.proofs.Changes.{marks_or, marks_or-at, changed_cases, all_member, units_in, units_of_zip, adds-pipelines, finishes-pipelines, with-parts, with-pipelines, next_rising}
 use Rattle.gob_ledger.proofs.Tiling.{tiles, all_added, with_tiled, finish_keeps, distinct_filter, filter_units}
 use Rattle.gob_ledger.proofs.Cutting.{follow_above}
 
@@ -28,7 +28,7 @@ AllProper s = (part : List ℕ) (m : Marks) → marks_at s part ≡ Some m → P
 
 -- ---- counts
 
-capped_small : (n : ℕ) → capped n < 2 ^ 64
+capped_small : (n : ℕ) → saturate_u64 n < 2 ^ 64
 capped_small n = omega arith
 
 both_small : (a b : BranchCounts) → SmallBranch (both_branches a b)
@@ -45,7 +45,7 @@ sums_few n (x ∷ xs) [] a b = a
 sums_few zero (x ∷ xs) (y ∷ ys) a b = absurd (omega (arith, a))
 sums_few (suc n) (x ∷ xs) (y ∷ ys) a b = let r = sums_few n xs ys (omega (arith, a)) (omega (arith, b)) in omega (arith, r)
 
-sums_more : (xs ys : List BranchCounts) → length xs ≤ length (branch_sums xs ys)
+pub sums_more : (xs ys : List BranchCounts) → length xs ≤ length (branch_sums xs ys)
 sums_more [] ys = omega arith
 sums_more (x ∷ xs) [] = omega arith
 sums_more (x ∷ xs) (y ∷ ys) = let r = sums_more xs ys in omega (arith, r)
@@ -79,7 +79,7 @@ finishes_totals p [] s x each = x
 finishes_totals p (j ∷ js) s x each =
     finishes_totals p js (finish_unit p s j) (plus_proper s.totals (counts_in j.1) x (λ c e. each j c (first_in j js j refl) e)) (λ k c h e. each k c (later_in j js k h) e)
 
-adds_totals : (js : List Judged) (s : State) → (fold_units add_unit s js).totals ≡ s.totals
+pub adds_totals : (js : List Judged) (s : State) → (fold_units add_unit s js).totals ≡ s.totals
 adds_totals [] s = refl
 adds_totals (j ∷ js) s = adds_totals js (add_unit s j) ∙ elim j.0.fresh as (λ b. (cond b (change_part (with_owed (span_of j.0)) j.0.part s) s).totals ≡ s.totals) [ true ↦ refl | false ↦ refl ]
 
@@ -119,18 +119,51 @@ finishes_proper p (j ∷ js) s all apart owed =
 
 -- ---- the state
 
-same_pipeline : (p : List ℕ) (s : State) → s.pipelines ≡ p ∷ [] → with_pipeline p s ≡ s
-same_pipeline p s is = ap (λ b. cond b s (record s { pipelines = s.pipelines ++ p ∷ [] })) (ap (list_any (bytes_eq p)) is ∙ ap (λ b. b || false) (name_itself p))
+eq_sym : (x y : List ℕ) → bytes_eq x y ≡ false → bytes_eq y x ≡ false
+eq_sym x y e = cases (bytes_eq y x) refl
+  where
+    cases : (b : Bool) → bytes_eq y x ≡ b → bytes_eq y x ≡ false
+    cases false is = is
+    cases true is = absurd (let no : true ≡ false = sym (subst (λ z. bytes_eq x z ≡ true) (sym (same_name y x is)) (name_itself x)) ∙ e in cc)
 
-committed_proper : (s : State) (pipeline : List ℕ) (all : List Judged) (keep : Judged → Bool) (done : List Judged) → done ≡ filter keep all → Proper s → s.pipelines ≡ pipeline ∷ [] → UnitsFit s.parts (units_in all)
+not_any : (p x : List ℕ) (xs : List (List ℕ)) → (bytes_eq p x || list_any (bytes_eq p) xs) ≡ false → (bytes_eq p x ≡ false) × (list_any (bytes_eq p) xs ≡ false)
+not_any p x xs e = cases (bytes_eq p x) refl e
+  where
+    cases : (b : Bool) → bytes_eq p x ≡ b → (b || list_any (bytes_eq p) xs) ≡ false → (bytes_eq p x ≡ false) × (list_any (bytes_eq p) xs ≡ false)
+    cases true is e = absurd (let no : true ≡ false = e in cc)
+    cases false is e = (is, e)
+
+push_all : {A : Type 0} (P : A → Type 0) (xs : List A) (y : A) → All P xs → P y → All P (xs ++ y ∷ [])
+push_all P xs y a p = All-append P xs (y ∷ []) a (All-cons P y [] p (All-nil P))
+
+push_each : {A : Type 0} (P : A → Type 0) (xs : List A) (y : A) → AllByRecursion P xs → P y → AllByRecursion P (xs ++ y ∷ [])
+push_each P [] y a p = (p, tt)
+push_each P (x ∷ xs) y a p = (a.0, push_each P xs y a.1 p)
+
+push_distinct : (p : List ℕ) (xs : List (List ℕ)) → IsDistinct bytes_eq xs → list_any (bytes_eq p) xs ≡ false → IsDistinct bytes_eq (xs ++ p ∷ [])
+unfolding IsDistinct
+push_distinct p [] d e = (tt, tt)
+push_distinct p (x ∷ xs) d e =
+    let n = not_any p x xs e in
+    (push_each (λ y. bytes_eq x y ≡ false) xs p d.0 (eq_sym p x n.0), push_distinct p xs d.1 n.1)
+
+pipelines_proper : (p : List ℕ) (ps : List (List ℕ)) (b : Bool) → list_any (bytes_eq p) ps ≡ b → IsKeptPipeline p → All IsKeptPipeline ps → IsDistinct bytes_eq ps
+    → All IsKeptPipeline (cond b ps (ps ++ p ∷ [])) × IsDistinct bytes_eq (cond b ps (ps ++ p ∷ []))
+pipelines_proper p ps true is own all apart = (all, apart)
+pipelines_proper p ps false is own all apart = (push_all IsKeptPipeline ps p all own, push_distinct p ps apart is)
+
+pub with-totals : (p : List ℕ) (s : State) → (with_pipeline p s).totals ≡ s.totals
+with-totals p s = elim (list_any (bytes_eq p) s.pipelines) as (λ b. (cond b s (record s { pipelines = s.pipelines ++ p ∷ [] })).totals ≡ s.totals) [ true ↦ refl | false ↦ refl ]
+
+committed_proper : (s : State) (pipeline : List ℕ) (all : List Judged) (keep : Judged → Bool) (done : List Judged) → done ≡ filter keep all → Proper s → IsKeptPipeline pipeline
+    → Small (length (state_with_commit_or s pipeline all done).pipelines) → UnitsFit s.parts (units_in all)
     → ((u : WorkUnit) → Contains (units_in all) u → ProperUnit u) → ((j : Judged) (c : Counts) → Contains done j → counts_in j.1 ≡ Some c → ProperCounts c)
-    → TiledState (committed_or s pipeline all done) → Rising (names_of (committed_or s pipeline all done).parts) → Proper (committed_or s pipeline all done)
-committed_proper s pipeline all keep [] is proper one fit units counts tiled rising = proper
-committed_proper s pipeline all keep (d ∷ ds) is proper one fit units counts tiled rising =
+    → TiledState (state_with_commit_or s pipeline all done) → IsInByteOrder (names_of (state_with_commit_or s pipeline all done).parts) → Proper (state_with_commit_or s pipeline all done)
+committed_proper s pipeline all keep [] is proper one small fit units counts tiled rising = proper
+committed_proper s pipeline all keep (d ∷ ds) is proper one small fit units counts tiled rising =
     let p = pipeline_index pipeline s in
     let start = with_pipeline pipeline s in
-    let same : start ≡ s = same_pipeline pipeline s one in
-    let added = all_added all start (with_tiled pipeline s proper.tiled) (λ q. subst (λ t. Follow (next_of t q) (fresh_in q (units_in all))) (sym (with-parts pipeline s)) (fit.fresh q)) in
+    let added = all_added all start (with_tiled pipeline s proper.tiled) (λ q. subst (λ t. AreAdjacentFrom (next_of t q) (fresh_in q (units_in all))) (sym (with-parts pipeline s)) (fit.fresh q)) in
     let t = fold_units add_unit start all in
     let owed : (k : WorkUnit) → Contains (units_in all) k → IsOwed t.parts k = λ k h.
     elim k.fresh as (λ b. k.fresh ≡ b → IsOwed t.parts k) [
@@ -139,16 +172,18 @@ committed_proper s pipeline all keep (d ∷ ds) is proper one fit units counts t
     ] refl in
     let some : (u : WorkUnit) → Contains (units_in all) u → u.fresh ≡ true → u.lo < u.hi = λ u h f.
     (follow_above (next_of s.parts u.part) (fresh_in u.part (units_in all)) u (fit.fresh u.part) (filter_in (λ v. v.fresh && bytes_eq v.part u.part) (units_in all) u h (and_from _ _ f (name_itself u.part)))).1 in
-    let parts = finishes_proper p (d ∷ ds) t (adds_proper all start (subst AllProper (sym same) proper.parts) units some)
+    let parts = finishes_proper p (d ∷ ds) t (adds_proper all start (λ q m e. proper.parts q m (ap (λ t. at_name t q) (sym (with-parts pipeline s)) ∙ e)) units some)
     (subst (λ js. IsDistinct same_unit (units_in js)) (sym is) (distinct_filter keep all fit.once))
     (λ k h. owed k (filter_units keep all k (subst (λ js. Contains (units_in js) k) is h))) in
-    let first : ProperTotals t.totals = subst ProperTotals (sym (adds_totals all start ∙ ap (λ (x : State). x.totals) same)) (record { small = proper.totals; some = proper.branches.0; few = proper.branches.1 }) in
+    let first : ProperTotals t.totals = subst ProperTotals (sym (adds_totals all start ∙ with-totals pipeline s)) (record { small = proper.totals; some = proper.branches.0; few = proper.branches.1 }) in
     let totals = finishes_totals p (d ∷ ds) t first counts in
-    let pipes : (committed_or s pipeline all (d ∷ ds)).pipelines ≡ s.pipelines = finishes-pipelines p (d ∷ ds) t ∙ (adds-pipelines all start ∙ ap (λ (x : State). x.pipelines) same) in
+    let pipes = finishes-pipelines p (d ∷ ds) t ∙ (adds-pipelines all start ∙ with-pipelines pipeline s) in
+    let both = pipelines_proper pipeline s.pipelines (list_any (bytes_eq pipeline) s.pipelines) refl one proper.pipelines proper.differ in
     record {
       run = capped_small (s.run + 1);
-      one_pipeline = ap length pipes ∙ proper.one_pipeline;
-      pipelines = subst (All IsPipeline) (sym pipes) proper.pipelines;
+      pipelines = subst (All IsKeptPipeline) (sym pipes) both.0;
+      few = small;
+      differ = subst (IsDistinct bytes_eq) (sym pipes) both.1;
       totals = totals.small;
       branches = (totals.some, totals.few);
       names = rising;
@@ -158,8 +193,8 @@ committed_proper s pipeline all keep (d ∷ ds) is proper one fit units counts t
 
 pub stays_proper : NextIsProper
 unfolding next_state
-stays_proper s pipeline units verdicts policy same proper one fit each counts =
+stays_proper s pipeline units verdicts policy same proper one small fit each counts =
     let fits = subst (UnitsFit s.parts) (sym (units_of_zip units verdicts same)) fit in
-    committed_proper s pipeline (zip units verdicts) _ (allowed_units policy (zip units verdicts)) refl proper one fits
+    committed_proper s pipeline (zip units verdicts) _ (allowed_units policy (zip units verdicts)) refl proper one small fits
     (λ u h. each u (subst (λ us. Contains us u) (units_of_zip units verdicts same) h)) counts
     (tiles s pipeline units verdicts policy same proper.tiled fit) (next_rising s pipeline units verdicts policy proper.names)

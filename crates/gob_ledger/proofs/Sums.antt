@@ -6,24 +6,24 @@ use Rattle.std.specs.declared.cmp.Ordering.TheVariants.{Less, Equal, Greater}
 use Rattle.std.specs.Option.{option_and_then}
 use Rattle.std.specs.List.{Contains, flat_map, slice_get, range_with_len, zip, list_any}
 use Rattle.std.specs.Str.{bytes_eq}
-use Rattle.gob_bytes.specs.Tables.{Table, at_name, with_name, names_of, name_cmp, Rising}
+use Rattle.gob_bytes.specs.Tables.{Table, at_name, with_name, names_of, name_cmp, IsInByteOrder}
 use Rattle.gob_bytes.proofs.Tables.{level_names, greater_less, less_apart, two_names, none_below, at_head, at_tail, at_from_member, rising_tail, rising-with_name}
 use Rattle.gob_device.specs.Supply.{Held}
 use Rattle.gob_plan.specs.declared.plan.Plan.{Plan}
 use Rattle.gob_plan.specs.declared.units.BranchCounts.{BranchCounts}
 use Rattle.gob_plan.specs.declared.units.Counts.{Counts}
-use Rattle.gob_meaning.specs.Fold.{Folded, capped, counts_of, branch_counts}
-use Rattle.gob_meaning.specs.Job.{plan_of}
+use Rattle.gob_meaning.specs.Fold.{Folded, saturate_u64, counts_of, branch_counts}
 use Rattle.gob_ledger.specs.Marks.{Marks, Span, Done}
 use Rattle.gob_meaning.specs.Sums.{both_branches, branch_sums, sum_of}
 use Rattle.gob_ledger.specs.State.{State, no_branch, no_counts, TiledState}
 use Rattle.gob_ledger.specs.Units.{span_of}
-use Rattle.gob_ledger.specs.Next.{Judged, no_marks, insert_done, with_owed, with_done, change_part, add_unit, finish_unit, fold_units, counts_in, plus, with_pipeline, pipeline_index, committed_or, allowed_units, next_state}
+use Rattle.gob_ledger.specs.Next.{Judged, no_marks, insert_done, with_owed, with_done, change_part, add_unit, finish_unit, fold_units, counts_in, plus, with_pipeline, pipeline_index, state_with_commit_or, allowed_units, next_state}
 use Rattle.gob_ledger.specs.Totals.{span_counts, plan_at, counts_where, done_counts, part_counts, sum_counts, counted_in, branch_at}
 use Rattle.gob_ledger.specs.Laws.{CountsAre, NextTotals}
 use Rattle.gob_ledger.proofs.Members.{first_in, later_in, in_flat_map, in_map}
 use Rattle.gob_ledger.proofs.Changes.{marks_or, adds-pipelines, finishes-pipelines, with-parts, pipeline_there, pipeline_stays}
 use Rattle.gob_ledger.proofs.Grown.{map_alike, flat_map_alike}
+use Rattle.gob_jobs.specs.Plans.{plan_of}
 
 -- the end of a u64
 abbrev pub most : ℕ
@@ -32,14 +32,14 @@ most = 2 ^ 64 - 1
 -- one of the counts, which sums add
 pub record Adds (g : Counts → ℕ) : Type 0 where
   pub none : g (no_counts 0) ≡ 0
-  pub joins : (a b : Counts) → capped (g (sum_of a b)) ≡ capped (g a + g b)
+  pub joins : (a b : Counts) → saturate_u64 (g (sum_of a b)) ≡ saturate_u64 (g a + g b)
   pub stays : (a b : Counts) → g a ≤ most → g b ≤ most → g (sum_of a b) ≤ most
   pub small : (plan : Plan) (fold : List Folded) → g (counts_of plan fold) ≤ most
 
-twice : (n : ℕ) → capped (capped n) ≡ capped n
+twice : (n : ℕ) → saturate_u64 (saturate_u64 n) ≡ saturate_u64 n
 twice n = omega arith
 
-below : (n : ℕ) → capped n ≤ most
+below : (n : ℕ) → saturate_u64 n ≤ most
 below n = omega arith
 
 pub records_add : Adds (λ c. c.records)
@@ -61,22 +61,22 @@ unrouted_add = record { none = refl; joins = λ a b. twice (a.unrouted + b.unrou
 -- one of a branch's counts
 record OfBranch (h : BranchCounts → ℕ) : Type 0 where
   none : h no_branch ≡ 0
-  joins : (a b : BranchCounts) → h (both_branches a b) ≡ capped (h a + h b)
+  joins : (a b : BranchCounts) → h (both_branches a b) ≡ saturate_u64 (h a + h b)
   small : (fold : List Folded) (k : ℕ) → h (branch_counts fold k) ≤ most
 
 abbrev pub branch_or : List BranchCounts → ℕ → BranchCounts
 branch_or bs i = unwrap_or (slice_get bs i) no_branch
 
-from_none : (n m : ℕ) → n ≡ 0 → capped m ≡ capped (n + m)
+from_none : (n m : ℕ) → n ≡ 0 → saturate_u64 m ≡ saturate_u64 (n + m)
 from_none n m e = omega arith
 
-to_none : (n m : ℕ) → m ≡ 0 → capped n ≡ capped (n + m)
+to_none : (n m : ℕ) → m ≡ 0 → saturate_u64 n ≡ saturate_u64 (n + m)
 to_none n m e = omega arith
 
-sums_join : (h : BranchCounts → ℕ) → OfBranch h → (xs ys : List BranchCounts) (i : ℕ) → capped (h (branch_or (branch_sums xs ys) i)) ≡ capped (h (branch_or xs i) + h (branch_or ys i))
+sums_join : (h : BranchCounts → ℕ) → OfBranch h → (xs ys : List BranchCounts) (i : ℕ) → saturate_u64 (h (branch_or (branch_sums xs ys) i)) ≡ saturate_u64 (h (branch_or xs i) + h (branch_or ys i))
 sums_join h o [] ys i = from_none (h no_branch) (h (branch_or ys i)) o.none
 sums_join h o (x ∷ xs) [] i = to_none (h (branch_or (x ∷ xs) i)) (h no_branch) o.none
-sums_join h o (x ∷ xs) (y ∷ ys) zero = ap capped (o.joins x y) ∙ twice (h x + h y)
+sums_join h o (x ∷ xs) (y ∷ ys) zero = ap saturate_u64 (o.joins x y) ∙ twice (h x + h y)
 sums_join h o (x ∷ xs) (y ∷ ys) (suc i) = sums_join h o xs ys i
 
 sums_stay : (h : BranchCounts → ℕ) → OfBranch h → (xs ys : List BranchCounts) (i : ℕ) → h (branch_or xs i) ≤ most → h (branch_or ys i) ≤ most → h (branch_or (branch_sums xs ys) i) ≤ most
@@ -122,22 +122,22 @@ total-append g (x ∷ xs) ys = omega (arith, total-append g xs ys)
 abbrev pub AllSmall : (Counts → ℕ) → List Counts → Type 0
 AllSmall g cs = (c : Counts) → Contains cs c → g c ≤ most
 
-capped_more : (n m : ℕ) → capped (n + capped m) ≡ capped (n + m)
+capped_more : (n m : ℕ) → saturate_u64 (n + saturate_u64 m) ≡ saturate_u64 (n + m)
 capped_more n m = omega arith
 
-capped_of : (n : ℕ) → n ≤ most → capped n ≡ n
+capped_of : (n : ℕ) → n ≤ most → saturate_u64 n ≡ n
 capped_of n le = omega arith
 
 sum_small : (g : Counts → ℕ) → Adds g → (cs : List Counts) → AllSmall g cs → g (sum_counts cs) ≤ most
 sum_small g a [] small = let e = a.none in omega (arith, e)
 sum_small g a (c ∷ cs) small = a.stays c (sum_counts cs) (small c (first_in c cs c refl)) (sum_small g a cs (λ x h. small x (later_in c cs x h)))
 
-sum_is : (g : Counts → ℕ) → Adds g → (cs : List Counts) → AllSmall g cs → g (sum_counts cs) ≡ capped (total g cs)
+sum_is : (g : Counts → ℕ) → Adds g → (cs : List Counts) → AllSmall g cs → g (sum_counts cs) ≡ saturate_u64 (total g cs)
 sum_is g a [] small = let e = a.none in omega (arith, e)
 sum_is g a (c ∷ cs) small =
     sym (capped_of (g (sum_counts (c ∷ cs))) (sum_small g a (c ∷ cs) small))
     ∙ (a.joins c (sum_counts cs)
-    ∙ (ap (λ n. capped (g c + n)) (sum_is g a cs (λ x h. small x (later_in c cs x h)))
+    ∙ (ap (λ n. saturate_u64 (g c + n)) (sum_is g a cs (λ x h. small x (later_in c cs x h)))
     ∙ capped_more (g c) (total g cs)))
 
 -- ---- sums over a state
@@ -160,7 +160,7 @@ insert_total g pipes archive part d (e ∷ es) = elim (nat_lt d.span.lo e.span.l
 abbrev at_total : (Counts → ℕ) → List (List ℕ) → Held → List ℕ → Option Marks → ℕ
 at_total g pipes archive part o = ranges_total g pipes archive part (unwrap_or o no_marks).finished
 
-table_changed : (g : Counts → ℕ) (pipes : List (List ℕ)) (archive : Held) (t : Table Marks) (part : List ℕ) (m : Marks) → Rising (names_of t)
+table_changed : (g : Counts → ℕ) (pipes : List (List ℕ)) (archive : Held) (t : Table Marks) (part : List ℕ) (m : Marks) → IsInByteOrder (names_of t)
     → table_total g pipes archive (with_name t part m) + at_total g pipes archive part (at_name t part) ≡ table_total g pipes archive t + ranges_total g pipes archive part m.finished
 table_changed g pipes archive [] part m rising = omega (arith, total-append g (map (done_counts pipes archive part) m.finished) [])
 table_changed g pipes archive (e ∷ es) part m rising = cases (name_cmp part e.0) refl (table_changed g pipes archive es part m (rising_tail e.0 (names_of es) rising))
@@ -199,14 +199,14 @@ table_changed g pipes archive (e ∷ es) part m rising = cases (name_cmp part e.
 
 -- ---- a run
 
-owing_total : (g : Counts → ℕ) (pipes : List (List ℕ)) (archive : Held) (s : State) (j : Judged) → Rising (names_of s.parts) → table_total g pipes archive (add_unit s j).parts ≡ table_total g pipes archive s.parts
+owing_total : (g : Counts → ℕ) (pipes : List (List ℕ)) (archive : Held) (s : State) (j : Judged) → IsInByteOrder (names_of s.parts) → table_total g pipes archive (add_unit s j).parts ≡ table_total g pipes archive s.parts
 owing_total g pipes archive s j rising = elim j.0.fresh as (λ b. table_total g pipes archive (cond b (change_part (with_owed (span_of j.0)) j.0.part s) s).parts ≡ table_total g pipes archive s.parts) [
   | true ↦ (let e = table_changed g pipes archive s.parts j.0.part (with_owed (span_of j.0) (marks_or s j.0.part)) rising in omega (arith, e))
   | false ↦ refl
 ]
 
-add_rising : (s : State) (j : Judged) → Rising (names_of s.parts) → Rising (names_of (add_unit s j).parts)
-add_rising s j r = elim j.0.fresh as (λ b. Rising (names_of (cond b (change_part (with_owed (span_of j.0)) j.0.part s) s).parts)) [
+add_rising : (s : State) (j : Judged) → IsInByteOrder (names_of s.parts) → IsInByteOrder (names_of (add_unit s j).parts)
+add_rising s j r = elim j.0.fresh as (λ b. IsInByteOrder (names_of (cond b (change_part (with_owed (span_of j.0)) j.0.part s) s).parts)) [
   | true ↦ rising-with_name s.parts j.0.part (with_owed (span_of j.0) (marks_or s j.0.part)) r
   | false ↦ r
 ]
@@ -215,11 +215,11 @@ add_totals : (s : State) (j : Judged) → (add_unit s j).totals ≡ s.totals
 add_totals s j = elim j.0.fresh as (λ b. (cond b (change_part (with_owed (span_of j.0)) j.0.part s) s).totals ≡ s.totals) [ true ↦ refl | false ↦ refl ]
 
 record Kept (g : Counts → ℕ) (pipes : List (List ℕ)) (archive : Held) (s t : State) : Type 0 where
-  rising : Rising (names_of t.parts)
+  rising : IsInByteOrder (names_of t.parts)
   table : table_total g pipes archive t.parts ≡ table_total g pipes archive s.parts
   totals : t.totals ≡ s.totals
 
-adds_keep : (g : Counts → ℕ) (pipes : List (List ℕ)) (archive : Held) (js : List Judged) (s : State) → Rising (names_of s.parts) → Kept g pipes archive s (fold_units add_unit s js)
+adds_keep : (g : Counts → ℕ) (pipes : List (List ℕ)) (archive : Held) (js : List Judged) (s : State) → IsInByteOrder (names_of s.parts) → Kept g pipes archive s (fold_units add_unit s js)
 adds_keep g pipes archive [] s rising = record { rising = rising; table = refl; totals = refl }
 adds_keep g pipes archive (j ∷ js) s rising =
     let rest = adds_keep g pipes archive js (add_unit s j) (add_rising s j rising) in
@@ -227,9 +227,9 @@ adds_keep g pipes archive (j ∷ js) s rising =
 
 -- the totals are what the ranges made, and within their limit
 record IsTotal (g : Counts → ℕ) (pipes : List (List ℕ)) (archive : Held) (s : State) : Type 0 where
-  is : g s.totals ≡ capped (table_total g pipes archive s.parts)
+  is : g s.totals ≡ saturate_u64 (table_total g pipes archive s.parts)
 
-finish_total : (g : Counts → ℕ) → Adds g → (pipes : List (List ℕ)) (archive : Held) (p : ℕ) (plan : Plan) (s : State) (j : Judged) → Rising (names_of s.parts) → plan_at pipes p ≡ Some plan
+finish_total : (g : Counts → ℕ) → Adds g → (pipes : List (List ℕ)) (archive : Held) (p : ℕ) (plan : Plan) (s : State) (j : Judged) → IsInByteOrder (names_of s.parts) → plan_at pipes p ≡ Some plan
     → counts_in j.1 ≡ Some (span_counts plan archive j.0.part (span_of j.0)) → IsTotal g pipes archive s → IsTotal g pipes archive (finish_unit p s j)
 finish_total g a pipes archive p plan s j rising at counted t =
     let c = span_counts plan archive j.0.part (span_of j.0) in
@@ -244,12 +244,12 @@ finish_total g a pipes archive p plan s j rising at counted t =
     let small : g s.totals ≤ most = subst (λ n. n ≤ most) (sym t.is) (below (table_total g pipes archive s.parts)) in
     let joined = a.joins s.totals c in
     let stays = a.stays s.totals c small (a.small plan _) in
-    record { is = is ∙ (sym (capped_of (g (sum_of s.totals c)) stays) ∙ (joined ∙ (ap (λ n. capped (n + g c)) t.is ∙ (capped_less (table_total g pipes archive s.parts) (g c) ∙ ap capped (sym new))))) }
+    record { is = is ∙ (sym (capped_of (g (sum_of s.totals c)) stays) ∙ (joined ∙ (ap (λ n. saturate_u64 (n + g c)) t.is ∙ (capped_less (table_total g pipes archive s.parts) (g c) ∙ ap saturate_u64 (sym new))))) }
   where
-    capped_less : (n k : ℕ) → capped (capped n + k) ≡ capped (n + k)
+    capped_less : (n k : ℕ) → saturate_u64 (saturate_u64 n + k) ≡ saturate_u64 (n + k)
     capped_less n k = omega arith
 
-finishes_total : (g : Counts → ℕ) → Adds g → (pipes : List (List ℕ)) (archive : Held) (p : ℕ) (plan : Plan) (js : List Judged) (s : State) → Rising (names_of s.parts) → plan_at pipes p ≡ Some plan
+finishes_total : (g : Counts → ℕ) → Adds g → (pipes : List (List ℕ)) (archive : Held) (p : ℕ) (plan : Plan) (js : List Judged) (s : State) → IsInByteOrder (names_of s.parts) → plan_at pipes p ≡ Some plan
     → CountsAre archive plan js → IsTotal g pipes archive s → IsTotal g pipes archive (fold_units (finish_unit p) s js)
 finishes_total g a pipes archive p plan [] s rising at counted t = t
 finishes_total g a pipes archive p plan (j ∷ js) s rising at counted t =
@@ -266,7 +266,7 @@ all_small g a pipes archive t c h =
     let y = in_map (done_counts pipes archive x.0.0) x.0.1.finished c x.2 in
     subst (λ n. g n ≤ most) y.2 (where_small g a (plan_at pipes y.0.pipeline) archive x.0.0 y.0.span)
 
-counted_is : (g : Counts → ℕ) → Adds g → (s : State) (archive : Held) → g (counted_in s archive) ≡ capped (table_total g s.pipelines archive s.parts)
+counted_is : (g : Counts → ℕ) → Adds g → (s : State) (archive : Held) → g (counted_in s archive) ≡ saturate_u64 (table_total g s.pipelines archive s.parts)
 unfolding counted_in
 counted_is g a s archive = sum_is g a (flat_map (part_counts s.pipelines archive) s.parts) (all_small g a s.pipelines archive s.parts)
 
@@ -274,7 +274,7 @@ counted_is g a s archive = sum_is g a (flat_map (part_counts s.pipelines archive
 same_plan : (p : List ℕ) (s : State) (k : ℕ) → k < length s.pipelines → plan_at (with_pipeline p s).pipelines k ≡ plan_at s.pipelines k
 same_plan p s k below = ap (λ o. option_and_then plan_of o) (pipeline_stays p s k below)
 
-same_table : (p : List ℕ) (s : State) (archive : Held) → TiledState s → Rising (names_of s.parts) → flat_map (part_counts (with_pipeline p s).pipelines archive) s.parts ≡ flat_map (part_counts s.pipelines archive) s.parts
+same_table : (p : List ℕ) (s : State) (archive : Held) → TiledState s → IsInByteOrder (names_of s.parts) → flat_map (part_counts (with_pipeline p s).pipelines archive) s.parts ≡ flat_map (part_counts s.pipelines archive) s.parts
 same_table p s archive tiled rising =
     flat_map_alike (part_counts (with_pipeline p s).pipelines archive) (part_counts s.pipelines archive) s.parts
     (λ e h. map_alike (done_counts (with_pipeline p s).pipelines archive e.0) (done_counts s.pipelines archive e.0) e.1.finished
@@ -283,25 +283,25 @@ same_table p s archive tiled rising =
 with-totals : (p : List ℕ) (s : State) → (with_pipeline p s).totals ≡ s.totals
 with-totals p s = elim (list_any (bytes_eq p) s.pipelines) as (λ b. (cond b s (record s { pipelines = s.pipelines ++ p ∷ [] })).totals ≡ s.totals) [ true ↦ refl | false ↦ refl ]
 
-committed_total : (g : Counts → ℕ) → Adds g → (s : State) (pipeline : List ℕ) (plan : Plan) (archive : Held) (all done : List Judged) → TiledState s → Rising (names_of s.parts) → plan_of pipeline ≡ Some plan → CountsAre archive plan done
-    → g s.totals ≡ g (counted_in s archive) → g (committed_or s pipeline all done).totals ≡ g (counted_in (committed_or s pipeline all done) archive)
+committed_total : (g : Counts → ℕ) → Adds g → (s : State) (pipeline : List ℕ) (plan : Plan) (archive : Held) (all done : List Judged) → TiledState s → IsInByteOrder (names_of s.parts) → plan_of pipeline ≡ Some plan → CountsAre archive plan done
+    → g s.totals ≡ g (counted_in s archive) → g (state_with_commit_or s pipeline all done).totals ≡ g (counted_in (state_with_commit_or s pipeline all done) archive)
 committed_total g a s pipeline plan archive all [] tiled rising is counted same = same
 committed_total g a s pipeline plan archive all (d ∷ ds) tiled rising is counted same =
     let start = with_pipeline pipeline s in
     let pipes = start.pipelines in
     let p = pipeline_index pipeline s in
-    let risen : Rising (names_of start.parts) = subst (λ t. Rising (names_of t)) (sym (with-parts pipeline s)) rising in
+    let risen : IsInByteOrder (names_of start.parts) = subst (λ t. IsInByteOrder (names_of t)) (sym (with-parts pipeline s)) rising in
     let kept = adds_keep g pipes archive all start risen in
     let at : plan_at pipes p ≡ Some plan = ap (λ o. option_and_then plan_of o) (pipeline_there pipeline s) ∙ is in
     let old : table_total g pipes archive start.parts ≡ table_total g s.pipelines archive s.parts = ap (table_total g pipes archive) (with-parts pipeline s) ∙ ap (total g) (same_table pipeline s archive tiled rising) in
     let first : IsTotal g pipes archive (fold_units add_unit start all) = record {
       is =
-          ap g (kept.totals ∙ with-totals pipeline s) ∙ (same ∙ (counted_is g a s archive ∙ ap capped (sym (kept.table ∙ old))));
+          ap g (kept.totals ∙ with-totals pipeline s) ∙ (same ∙ (counted_is g a s archive ∙ ap saturate_u64 (sym (kept.table ∙ old))));
     } in
     let last = finishes_total g a pipes archive p plan (d ∷ ds) (fold_units add_unit start all) kept.rising at counted first in
     let end = fold_units (finish_unit p) (fold_units add_unit start all) (d ∷ ds) in
     let its : end.pipelines ≡ pipes = finishes-pipelines p (d ∷ ds) (fold_units add_unit start all) ∙ adds-pipelines all start in
-    last.is ∙ sym (counted_is g a (committed_or s pipeline all (d ∷ ds)) archive ∙ ap (λ ps. capped (table_total g ps archive end.parts)) its)
+    last.is ∙ sym (counted_is g a (state_with_commit_or s pipeline all (d ∷ ds)) archive ∙ ap (λ ps. saturate_u64 (table_total g ps archive end.parts)) its)
 
 same_branch : (x y : BranchCounts) → x.written ≡ y.written → x.errors ≡ y.errors → x.optional ≡ y.optional → x ≡ y
 same_branch x y a b c = λ i. record { written = a i; errors = b i; optional = c i }
@@ -311,7 +311,7 @@ unfolding next_state
 totals_stay s pipeline plan units verdicts policy archive tiled rising is counted same =
     let all = zip units verdicts in
     let done = allowed_units policy all in
-    let t = committed_or s pipeline all done in
+    let t = state_with_commit_or s pipeline all done in
     let one : (g : Counts → ℕ) → Adds g → g s.totals ≡ g (counted_in s archive) → g t.totals ≡ g (counted_in t archive) = λ g a e. committed_total g a s pipeline plan archive all done tiled rising is counted e in
     record {
       records = one (λ c. c.records) records_add same.records;

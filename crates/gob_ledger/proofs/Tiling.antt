@@ -11,8 +11,8 @@ use Rattle.gob_plan.specs.declared.units.Unit.{Unit as WorkUnit}
 use Rattle.gob_bytes.specs.Tables.{at_name}
 use Rattle.gob_ledger.specs.Marks.{Marks, Span, Done, Tiled}
 use Rattle.gob_ledger.specs.State.{State, marks_at, TiledState}
-use Rattle.gob_ledger.specs.Units.{span_of, same_span, same_unit, next_of, fresh_in, Follow, IsOwed, UnitsFit}
-use Rattle.gob_ledger.specs.Next.{Judged, no_marks, insert_done, with_owed, with_done, change_part, add_unit, finish_unit, fold_units, with_pipeline, pipeline_index, committed_or, allowed_units, next_state}
+use Rattle.gob_ledger.specs.Units.{span_of, same_span, same_unit, next_of, fresh_in, AreAdjacentFrom, IsOwed, UnitsFit}
+use Rattle.gob_ledger.specs.Next.{Judged, no_marks, insert_done, with_owed, with_done, change_part, add_unit, finish_unit, fold_units, with_pipeline, pipeline_index, state_with_commit_or, allowed_units, next_state}
 use Rattle.gob_ledger.specs.Laws.{NextTiles}
 use Rattle.gob_ledger.proofs.Members.{none_in, first_in, later_in, in_cases, in_filter, filter_in, in_map, map_in}
 use Rattle.gob_ledger.proofs.Ranges.{tiled_none, tiled_owed, tiled_done, span_is, same_itself}
@@ -56,7 +56,7 @@ change_tiled f part s tiled here indexes = record {
   indexed = λ q m d e h. ⊎_elim (λ p. indexes d (subst (λ (n : Marks). Contains n.finished d) (sym p.1) h)) (λ p. tiled.indexed q m d p.1 h) (changed_cases f part s q m e);
 }
 
-next_or : (s : State) (part : List ℕ) → next_of s.parts part ≡ (marks_or s part).next
+pub next_or : (s : State) (part : List ℕ) → next_of s.parts part ≡ (marks_or s part).next
 next_or s part = elim (marks_at s part) as (λ o. unwrap_or (option_map (λ (m : Marks). m.next) o) 0 ≡ (unwrap_or o no_marks).next) [ None ↦ refl | Some m ↦ refl ]
 
 next_changed : (sp : Span) (part : List ℕ) (s : State) → next_of (change_part (with_owed sp) part s).parts part ≡ sp.hi
@@ -67,7 +67,7 @@ next_other sp part s q e = ap (λ o. unwrap_or (option_map (λ (m : Marks). m.ne
 
 -- the fresh units among these can be added one after the other
 abbrev pub Adds : State → List WorkUnit → Type 0
-Adds s us = (part : List ℕ) → Follow (next_of s.parts part) (fresh_in part us)
+Adds s us = (part : List ℕ) → AreAdjacentFrom (next_of s.parts part) (fresh_in part us)
 
 fresh_head : (u : WorkUnit) (us : List WorkUnit) → u.fresh ≡ true → fresh_in u.part (u ∷ us) ≡ u ∷ fresh_in u.part us
 fresh_head u us e = ap (λ b. cond b (u ∷ fresh_in u.part us) (fresh_in u.part us)) (and_from u.fresh (bytes_eq u.part u.part) e (name_itself u.part))
@@ -87,15 +87,15 @@ turned x y e = elim (bytes_eq y x) as (λ b. bytes_eq y x ≡ b → b ≡ false)
 ] refl
 
 -- what one added unit leaves
-record Added (s t : State) (u : WorkUnit) (us : List WorkUnit) : Type 0 where
-  tiled : TiledState t
-  adds : Adds t us
+pub record Added (s t : State) (u : WorkUnit) (us : List WorkUnit) : Type 0 where
+  pub tiled : TiledState t
+  pub adds : Adds t us
   keeps : (k : WorkUnit) → IsOwed s.parts k → IsOwed t.parts k
   owes : u.fresh ≡ true → IsOwed t.parts u
 
 added_fresh : (s : State) (u : WorkUnit) (us : List WorkUnit) → TiledState s → Adds s (u ∷ us) → u.fresh ≡ true → Added s (change_part (with_owed (span_of u)) u.part s) u us
 added_fresh s u us tiled adds fresh =
-    let first : Follow (next_of s.parts u.part) (u ∷ fresh_in u.part us) = subst (Follow (next_of s.parts u.part)) (fresh_head u us fresh) (adds u.part) in
+    let first : AreAdjacentFrom (next_of s.parts u.part) (u ∷ fresh_in u.part us) = subst (AreAdjacentFrom (next_of s.parts u.part)) (fresh_head u us fresh) (adds u.part) in
     let t : State = change_part (with_owed (span_of u)) u.part s in
     record {
       tiled = change_tiled (with_owed (span_of u)) u.part s tiled
@@ -106,11 +106,11 @@ added_fresh s u us tiled adds fresh =
       owes = λ e. (with_owed (span_of u) (marks_or s u.part), at_itself (with_owed (span_of u)) u.part s, Contains-push (marks_or s u.part).owed (span_of u));
     }
   where
-    follow : (q : List ℕ) (b : Bool) → bytes_eq q u.part ≡ b → Follow u.hi (fresh_in u.part us) → Follow (next_of (change_part (with_owed (span_of u)) u.part s).parts q) (fresh_in q us)
-    follow q true is rest = subst (λ p. Follow (next_of (change_part (with_owed (span_of u)) u.part s).parts p) (fresh_in p us)) (sym (same_name q u.part is))
-        (subst (λ n. Follow n (fresh_in u.part us)) (sym (next_changed (span_of u) u.part s)) rest)
-    follow q false is rest = subst (λ n. Follow n (fresh_in q us)) (sym (next_other (span_of u) u.part s q is))
-        (subst (Follow (next_of s.parts q)) (fresh_skip u us q (inr (turned q u.part is))) (adds q))
+    follow : (q : List ℕ) (b : Bool) → bytes_eq q u.part ≡ b → AreAdjacentFrom u.hi (fresh_in u.part us) → AreAdjacentFrom (next_of (change_part (with_owed (span_of u)) u.part s).parts q) (fresh_in q us)
+    follow q true is rest = subst (λ p. AreAdjacentFrom (next_of (change_part (with_owed (span_of u)) u.part s).parts p) (fresh_in p us)) (sym (same_name q u.part is))
+        (subst (λ n. AreAdjacentFrom n (fresh_in u.part us)) (sym (next_changed (span_of u) u.part s)) rest)
+    follow q false is rest = subst (λ n. AreAdjacentFrom n (fresh_in q us)) (sym (next_other (span_of u) u.part s q is))
+        (subst (AreAdjacentFrom (next_of s.parts q)) (fresh_skip u us q (inr (turned q u.part is))) (adds q))
 
     kept : (k : WorkUnit) → IsOwed s.parts k → (b : Bool) → bytes_eq k.part u.part ≡ b → IsOwed (change_part (with_owed (span_of u)) u.part s).parts k
     kept k o true is =
@@ -122,10 +122,10 @@ added_fresh s u us tiled adds fresh =
         )
     kept k o false is = (o.0, at_other (with_owed (span_of u)) u.part s k.part is ∙ o.1, o.2)
 
-added_one : (s : State) (j : Judged) (us : List WorkUnit) → TiledState s → Adds s (j.0 ∷ us) → Added s (add_unit s j) j.0 us
+pub added_one : (s : State) (j : Judged) (us : List WorkUnit) → TiledState s → Adds s (j.0 ∷ us) → Added s (add_unit s j) j.0 us
 added_one s j us tiled adds = elim j.0.fresh as (λ b. j.0.fresh ≡ b → Added s (cond b (change_part (with_owed (span_of j.0)) j.0.part s) s) j.0 us) [
   | true ↦ λ e. added_fresh s j.0 us tiled adds e
-  | false ↦ λ e. record { tiled = tiled; adds = λ q. subst (Follow (next_of s.parts q)) (fresh_skip j.0 us q (inl e)) (adds q); keeps = λ k o. o; owes = λ f. absurd (let no : true ≡ false = sym f ∙ e in cc) }
+  | false ↦ λ e. record { tiled = tiled; adds = λ q. subst (AreAdjacentFrom (next_of s.parts q)) (fresh_skip j.0 us q (inl e)) (adds q); keeps = λ k o. o; owes = λ f. absurd (let no : true ≡ false = sym f ∙ e in cc) }
 ] refl
 
 -- what all added units leave
@@ -221,12 +221,12 @@ with_tiled p s tiled = record {
     longer : (k : ℕ) → k < length s.pipelines → k < length (with_pipeline p s).pipelines
     longer k below = let there = some_there s.pipelines k below in slice_get_within (with_pipeline p s).pipelines k there.0 (pipeline_stays p s k below ∙ there.1)
 
-committed_tiled : (s : State) (pipeline : List ℕ) (all : List Judged) (keep : Judged → Bool) (done : List Judged) → done ≡ filter keep all → TiledState s → UnitsFit s.parts (units_in all) → TiledState (committed_or s pipeline all done)
+committed_tiled : (s : State) (pipeline : List ℕ) (all : List Judged) (keep : Judged → Bool) (done : List Judged) → done ≡ filter keep all → TiledState s → UnitsFit s.parts (units_in all) → TiledState (state_with_commit_or s pipeline all done)
 committed_tiled s pipeline all keep [] is tiled fit = tiled
 committed_tiled s pipeline all keep (d ∷ ds) is tiled fit =
     let start = with_pipeline pipeline s in
     let parts = with-parts pipeline s in
-    let added = all_added all start (with_tiled pipeline s tiled) (λ q. subst (λ t. Follow (next_of t q) (fresh_in q (units_in all))) (sym parts) (fit.fresh q)) in
+    let added = all_added all start (with_tiled pipeline s tiled) (λ q. subst (λ t. AreAdjacentFrom (next_of t q) (fresh_in q (units_in all))) (sym parts) (fit.fresh q)) in
     let t = fold_units add_unit start all in
     let owed : (k : WorkUnit) → Contains (units_in all) k → IsOwed t.parts k = λ k h.
     elim k.fresh as (λ b. k.fresh ≡ b → IsOwed t.parts k) [

@@ -11,7 +11,7 @@ use Rattle.gob_plan.specs.declared.units.Unit.{Unit as WorkUnit}
 use Rattle.gob_ledger.specs.Marks.{Marks, Span, Done, done_spans, spans_of}
 use Rattle.gob_ledger.specs.State.{State, marks_at}
 use Rattle.gob_ledger.specs.Units.{span_of, same_span}
-use Rattle.gob_ledger.specs.Next.{Judged, no_marks, insert_done, with_owed, with_done, change_part, add_unit, finish_unit, fold_units, with_pipeline, pipeline_index, committed_or, allowed_units, next_state}
+use Rattle.gob_ledger.specs.Next.{Judged, no_marks, insert_done, with_owed, with_done, change_part, add_unit, finish_unit, fold_units, with_pipeline, pipeline_index, state_with_commit_or, allowed_units, next_state}
 use Rattle.gob_ledger.specs.Archive.{LiesOnLines, LiesIn, IsWithin}
 use Rattle.gob_ledger.specs.Laws.{Lies, NextWithin}
 use Rattle.gob_ledger.proofs.Members.{none_in, first_in, later_in, in_cases, in_filter, in_map, map_in}
@@ -88,7 +88,7 @@ finishes_within archive p (j ∷ js) s within lies =
     (changed_within archive (with_done p (span_of j.0)) j.0.part l.0 s within l.1 (done_lies l.0 (marks_or s j.0.part) p (span_of j.0) (lies_or archive s j.0.part l.0 within l.1) l.2))
     (λ u h. lies u (later_in j.0 (units_in js) u h))
 
-committed_within : (archive : Held) (s : State) (pipeline : List ℕ) (all : List Judged) (keep : Judged → Bool) (done : List Judged) → done ≡ filter keep all → IsWithin archive s → ((u : WorkUnit) → Contains (units_in all) u → Lies archive u) → IsWithin archive (committed_or s pipeline all done)
+committed_within : (archive : Held) (s : State) (pipeline : List ℕ) (all : List Judged) (keep : Judged → Bool) (done : List Judged) → done ≡ filter keep all → IsWithin archive s → ((u : WorkUnit) → Contains (units_in all) u → Lies archive u) → IsWithin archive (state_with_commit_or s pipeline all done)
 committed_within archive s pipeline all keep [] is within lies = within
 committed_within archive s pipeline all keep (d ∷ ds) is within lies =
     finishes_within archive (pipeline_index pipeline s) (d ∷ ds) (fold_units add_unit (with_pipeline pipeline s) all)

@@ -14,7 +14,8 @@ Agrees archive held = (part bytes : List ℕ) → at_name held part ≡ Some byt
 
 -- each partition of the first is a front of the same in the second
 abbrev pub Grows : Held → Held → Type 0
-Grows first second = (part bytes : List ℕ) → at_name first part ≡ Some bytes → (more : List ℕ) × (at_name second part ≡ Some (bytes ++ more))
+Grows first second = (part bytes : List ℕ) → at_name first part ≡ Some bytes
+    → (more : List ℕ) × (at_name second part ≡ Some (bytes ++ more))
 
 -- an offset where a line begins
 abbrev pub IsLineStart : List ℕ → ℕ → Type 0
@@ -32,4 +33,5 @@ pub record LiesIn (bytes : List ℕ) (m : Marks) : Type 0 where
 
 -- all ranges of the state lie in the archive's partitions
 abbrev pub IsWithin : Held → State → Type 0
-IsWithin archive s = (part : List ℕ) (m : Marks) → marks_at s part ≡ Some m → (bytes : List ℕ) × (at_name archive part ≡ Some bytes) × LiesIn bytes m
+IsWithin archive s = (part : List ℕ) (m : Marks) → marks_at s part ≡ Some m
+    → (bytes : List ℕ) × (at_name archive part ≡ Some bytes) × LiesIn bytes m

@@ -7,5 +7,15 @@ pub mod Archive
 pub mod Totals
 pub mod Spelling
 pub mod Turns
+pub mod Delta
+pub mod Groups
 pub mod Examples
 pub mod Laws
+pub mod Counted
+pub mod TurnLaws
+pub mod UnitLaws
+pub mod WorkedRuns
+pub mod WorkedUnits
+pub mod WorkedTurns
+pub mod WorkedStates
+pub mod SpellingLaws

@@ -1,5 +1,6 @@
 -- The ranges of a partition: which are done, and which are still owed.
-use Rattle.std.specs.Prelude.{◌≡◌, ℕ, ◌+◌, ◌<◌, ◌≤◌, Bool, true, false, cond, ◌&&◌, nat_le, nat_lt, List, [], ◌∷◌, ◌++◌, map}
+use Rattle.std.specs.Prelude.{◌≡◌, ℕ, ◌+◌, ◌<◌, ◌≤◌, Bool, true, false, if◌then◌else◌, ◌&&◌, nat_le, nat_lt, List, []}
+use Rattle.std.specs.Prelude.{◌∷◌, ◌++◌, map}
 use Rattle.std.specs.List.{count_by, list_any}
 
 -- offsets from lo, below hi
@@ -18,6 +19,7 @@ pub record Marks : Type 0 where
   pub finished : List Done
   pub owed : List Span
 
+-- the offset lies in the range
 abbrev pub has : ℕ → Span → Bool
 has at s = nat_le s.lo at && nat_lt at s.hi
 
@@ -25,9 +27,11 @@ has at s = nat_le s.lo at && nat_lt at s.hi
 abbrev pub times_covered : ℕ → Marks → ℕ
 times_covered at m = count_by (λ d. has at d.span) m.finished + count_by (has at) m.owed
 
+-- the ranges that are done
 abbrev pub done_spans : Marks → List Span
 done_spans m = map (λ d. d.span) m.finished
 
+-- all ranges
 abbrev pub spans_of : Marks → List Span
 spans_of m = done_spans m ++ m.owed
 
@@ -40,8 +44,9 @@ InOrder from (s ∷ ss) = (from ≤ s.lo) × (s.lo < s.hi) × InOrder s.hi ss
 pub record Tiled (m : Marks) : Type 0 where
   pub finished : InOrder 0 (done_spans m)
   pub owed : InOrder 0 m.owed
-  pub once : (at : ℕ) → times_covered at m ≡ cond (nat_lt at m.next) 1 0
+  pub once : (at : ℕ) → times_covered at m ≡ (if nat_lt at m.next then 1 else 0)
 
+-- the offset lies in a done range
 abbrev pub is_done : ℕ → Marks → Bool
 is_done at m = list_any (λ d. has at d.span) m.finished
 

@@ -15,20 +15,30 @@ pub record State : Type 0 where
   pub totals : Counts
   pub parts : Table Marks
 
+-- nothing went to a branch
 abbrev pub no_branch : BranchCounts
 no_branch = record { written = 0; errors = 0; optional = 0 }
 
+-- nothing was counted, of so many branches
 abbrev pub no_counts : ℕ → Counts
-no_counts branches = record { records = 0; bad = 0; rows = 0; unrouted = 0; branches = map (λ _. no_branch) (range_with_len 0 branches) }
+no_counts branches = record {
+  records = 0;
+  bad = 0;
+  rows = 0;
+  unrouted = 0;
+  branches = map (λ _. no_branch) (range_with_len 0 branches);
+}
 
 -- nothing is committed yet
-abbrev pub empty_state : List (List ℕ) → ℕ → State
-empty_state pipelines branches = record { run = 0; pipelines = pipelines; totals = no_counts branches; parts = [] }
+abbrev pub empty_state : ℕ → State
+empty_state branches = record { run = 0; pipelines = []; totals = no_counts branches; parts = [] }
 
+-- a partition's marks, where it is known
 abbrev pub marks_at : State → List ℕ → Option Marks
 marks_at s part = at_name s.parts part
 
 -- every partition is tiled by its ranges, and each done one names a pipeline of the state
 pub record TiledState (s : State) : Type 0 where
   pub tiled : (part : List ℕ) (m : Marks) → marks_at s part ≡ Some m → Tiled m
-  pub indexed : (part : List ℕ) (m : Marks) (d : Done) → marks_at s part ≡ Some m → Contains m.finished d → d.pipeline < length s.pipelines
+  pub indexed : (part : List ℕ) (m : Marks) (d : Done) → marks_at s part ≡ Some m → Contains m.finished d
+      → d.pipeline < length s.pipelines

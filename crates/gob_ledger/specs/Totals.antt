@@ -9,11 +9,11 @@ use Rattle.gob_plan.specs.declared.plan.Plan.{Plan}
 use Rattle.gob_plan.specs.declared.units.BranchCounts.{BranchCounts}
 use Rattle.gob_plan.specs.declared.units.Counts.{Counts}
 use Rattle.gob_meaning.specs.Fold.{unit_fold, counts_of}
-use Rattle.gob_meaning.specs.Job.{plan_of}
 use Rattle.gob_ledger.specs.Marks.{Marks, Span, Done}
 use Rattle.gob_meaning.specs.Sums.{sum_of}
 use Rattle.gob_ledger.specs.State.{State, no_branch, no_counts}
 use Rattle.gob_ledger.specs.Expected.{bytes_in}
+use Rattle.gob_jobs.specs.Plans.{plan_of}
 
 -- what a range of a partition makes
 abbrev pub span_counts : Plan → Held → List ℕ → Span → Counts
@@ -23,6 +23,7 @@ span_counts plan archive part s = counts_of plan (unit_fold plan s.lo (bytes_in 
 abbrev pub plan_at : List (List ℕ) → ℕ → Option Plan
 plan_at pipelines index = option_and_then plan_of (slice_get pipelines index)
 
+-- what a range makes by this plan; without one it counts nothing
 abbrev pub counts_where : Option Plan → Held → List ℕ → Span → Counts
 counts_where None archive part s = no_counts 0
 counts_where (Some plan) archive part s = span_counts plan archive part s
@@ -31,9 +32,11 @@ counts_where (Some plan) archive part s = span_counts plan archive part s
 abbrev pub done_counts : List (List ℕ) → Held → List ℕ → Done → Counts
 done_counts pipelines archive part d = counts_where (plan_at pipelines d.pipeline) archive part d.span
 
+-- what each done range of a partition made
 abbrev pub part_counts : List (List ℕ) → Held → List ℕ × Marks → List Counts
 part_counts pipelines archive e = map (done_counts pipelines archive e.0) e.1.finished
 
+-- the sum of these counts
 abbrev pub sum_counts : List Counts → Counts
 sum_counts [] = no_counts 0
 sum_counts (c ∷ cs) = sum_of c (sum_counts cs)
@@ -42,6 +45,7 @@ sum_counts (c ∷ cs) = sum_of c (sum_counts cs)
 unfoldable pub counted_in : State → Held → Counts
 counted_in s archive = sum_counts (flat_map (part_counts s.pipelines archive) s.parts)
 
+-- what went to a branch, nothing where there is none of this index
 abbrev pub branch_at : Counts → ℕ → BranchCounts
 branch_at c i = unwrap_or (slice_get c.branches i) no_branch
 

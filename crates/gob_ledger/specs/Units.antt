@@ -1,5 +1,6 @@
 -- The work units of a run: the ranges that are owed, and then cuts of what is new.
-use Rattle.std.specs.Prelude.{◌≡◌, ℕ, zero, suc, ◌+◌, ◌<◌, Bool, true, false, not, ◌&&◌, nat_eq, nat_le, nat_lt, List, [], ◌∷◌, ◌++◌, map, length, take, option_map, unwrap_or}
+use Rattle.std.specs.Prelude.{◌≡◌, ℕ, zero, suc, ◌+◌, ◌<◌, Bool, true, false, not, ◌&&◌, nat_eq, nat_le, nat_lt, List}
+use Rattle.std.specs.Prelude.{[], ◌∷◌, ◌++◌, map, length, take, option_map, unwrap_or}
 use Rattle.std.specs.Option.{is_some, option_to_list}
 use Rattle.std.specs.declared.option.Option.{Option}
 use Rattle.std.specs.declared.option.Option.TheVariants.{None, Some}
@@ -17,8 +18,11 @@ use Rattle.gob_ledger.specs.State.{State}
 
 -- where a cut from lo ends: at the last line end within max bytes, else at the first one behind
 abbrev pub cut_end : List ℕ → ℕ → ℕ → Option ℕ
-cut_end ends lo max = last_or (find (λ e. nat_lt (lo + max) e) ends) (filter (λ e. nat_lt lo e && nat_le e (lo + max)) ends)
+cut_end ends lo max =
+    let within = filter (λ e. nat_lt lo e && nat_le e (lo + max)) ends in
+    last_or (find (λ e. nat_lt (lo + max) e) ends) within
 
+-- a cut to this end, where there is one, and the later ones
 abbrev pub then_cuts : ℕ → Option ℕ → (ℕ → List Span) → List Span
 then_cuts lo None later = []
 then_cuts lo (Some hi) later = record { lo = lo; hi = hi } ∷ later hi
@@ -28,6 +32,7 @@ abbrev pub cuts : ℕ → List ℕ → ℕ → ℕ → List Span
 cuts zero ends max lo = []
 cuts (suc k) ends max lo = then_cuts lo (cut_end ends lo max) (cuts k ends max)
 
+-- the partition's name begins with the job's prefix
 abbrev pub has_prefix : Limits → List ℕ → Bool
 has_prefix limits part = begins_with limits.prefix part
 
@@ -55,56 +60,74 @@ first_shrunk parts listing = find (λ e. nat_lt e.1 (next_of parts e.0)) listing
 abbrev pub range_count : Table Marks → ℕ
 range_count parts = sum_by (λ e. length e.1.finished + length e.1.owed) parts
 
+-- a unit's range
 abbrev pub span_of : WorkUnit → Span
 span_of u = record { lo = u.lo; hi = u.hi }
 
+-- a new unit: no earlier run had it, and its partition is listed
 abbrev pub new_unit : List ℕ → Span → WorkUnit
 new_unit part s = record { part = part; lo = s.lo; hi = s.hi; fresh = true; listed = true }
 
 -- all cuts of a partition with these bytes
 abbrev pub cuts_of : Table Marks → Limits → List ℕ × List ℕ → List WorkUnit
-cuts_of parts limits e = let ends = line_ends e.1 in map (new_unit e.0) (cuts (length ends) ends limits.max_bytes (next_of parts e.0))
+cuts_of parts limits e =
+    let ends = line_ends e.1 in
+    map (new_unit e.0) (cuts (length ends) ends limits.max_bytes (next_of parts e.0))
 
 -- the first of each list, then the second of each, and so on
 abbrev pub in_rounds : {A : Type 0} → ℕ → List (List A) → List A
-in_rounds rounds lists = flat_map (λ k. flat_map (λ xs. option_to_list (slice_get xs k)) lists) (range_with_len 0 rounds)
+in_rounds rounds lists =
+    flat_map (λ k. flat_map (λ xs. option_to_list (slice_get xs k)) lists) (range_with_len 0 rounds)
 
+-- the partitions that the job takes
 abbrev pub kept_parts : Limits → Held → Held
 kept_parts limits held = filter (λ e. is_kept limits e.0) held
 
+-- the cuts of each of them
 abbrev pub all_cuts : Table Marks → Held → Limits → List (List WorkUnit)
 all_cuts parts held limits = map (cuts_of parts limits) (kept_parts limits held)
 
+-- the source lists the partition, and the job takes it
 abbrev pub is_listed : Held → Limits → List ℕ → Bool
 is_listed held limits part = is_some (at_name held part) && is_kept limits part
 
+-- an owed range as a unit
 abbrev pub owed_unit : Held → Limits → List ℕ → Span → WorkUnit
-owed_unit held limits part s = record { part = part; lo = s.lo; hi = s.hi; fresh = false; listed = is_listed held limits part }
+owed_unit held limits part s =
+    record { part = part; lo = s.lo; hi = s.hi; fresh = false; listed = is_listed held limits part }
 
+-- the owed ranges, by partition and offset
 abbrev pub owed_units : Table Marks → Held → Limits → List WorkUnit
 owed_units parts held limits = flat_map (λ e. map (owed_unit held limits e.0) e.1.owed) parts
 
 -- the new units: rounds over the cuts of all partitions, as many as a run may take
 abbrev pub new_units : Table Marks → Held → Limits → List WorkUnit
-new_units parts held limits = let lists = all_cuts parts held limits in take limits.max_new_units (in_rounds (length (flat_map (λ xs. xs) lists)) lists)
+new_units parts held limits =
+    let lists = all_cuts parts held limits in
+    take limits.max_new_units (in_rounds (length (flat_map (λ xs. xs) lists)) lists)
 
+-- the units of a run over these partitions
 unfoldable pub units_of_parts : Table Marks → Held → Limits → List WorkUnit
 units_of_parts parts held limits = owed_units parts held limits ++ new_units parts held limits
 
+-- the units of a run that finds this state
 abbrev pub units_of : State → Held → Limits → List WorkUnit
 units_of s held limits = units_of_parts s.parts held limits
 
 -- units that begin at from and follow each other
-abbrev pub Follow : ℕ → List WorkUnit → Type 0
-Follow from [] = Unit {0}
-Follow from (u ∷ us) = (u.lo ≡ from) × (u.lo < u.hi) × Follow u.hi us
+abbrev pub AreAdjacentFrom : ℕ → List WorkUnit → Type 0
+AreAdjacentFrom from [] = Unit {0}
+AreAdjacentFrom from (u ∷ us) = (u.lo ≡ from) × (u.lo < u.hi) × AreAdjacentFrom u.hi us
 
+-- the new units of a partition
 abbrev pub fresh_in : List ℕ → List WorkUnit → List WorkUnit
 fresh_in part units = filter (λ u. u.fresh && bytes_eq u.part part) units
 
+-- two ranges are one
 abbrev pub same_span : Span → Span → Bool
 same_span a b = nat_eq a.lo b.lo && nat_eq a.hi b.hi
 
+-- two units are of one range
 abbrev pub same_unit : WorkUnit → WorkUnit → Bool
 same_unit u v = bytes_eq u.part v.part && same_span (span_of u) (span_of v)
 
@@ -112,8 +135,8 @@ same_unit u v = bytes_eq u.part v.part && same_span (span_of u) (span_of v)
 abbrev pub IsOwed : Table Marks → WorkUnit → Type 0
 IsOwed parts u = (m : Marks) × (at_name parts u.part ≡ Some m) × Contains m.owed (span_of u)
 
--- units that a state can take in: each once, the old ones owed, and the fresh ones of each partition behind each other from its next
+-- units that a state can take in: each once, the old ones owed, the fresh ones of each partition in a row from its next
 pub record UnitsFit (parts : Table Marks) (units : List WorkUnit) : Type 0 where
   pub once : IsDistinct same_unit units
   pub owed : (u : WorkUnit) → Contains units u → u.fresh ≡ false → IsOwed parts u
-  pub fresh : (part : List ℕ) → Follow (next_of parts part) (fresh_in part units)
+  pub fresh : (part : List ℕ) → AreAdjacentFrom (next_of parts part) (fresh_in part units)

@@ -63,7 +63,8 @@ folder_has : (b : ℕ) (bs rest : List ℕ) → is_folder (b ∷ bs) ≡ true �
 folder_has b [] rest folder lacks = true≢false (sym folder ∙ (or_parts (nat_eq b 47) _ lacks).0)
 folder_has b (c ∷ bs) rest folder lacks = folder_has c bs rest folder (or_parts (nat_eq b 47) _ lacks).1
 
-folder_parted : (p q x y : List ℕ) → is_folder p ≡ true → is_folder q ≡ true → Lacks 47 x → Lacks 47 y → p ++ x ≡ q ++ y → (p ≡ q) × (x ≡ y)
+folder_parted : (p q x y : List ℕ) → is_folder p ≡ true → is_folder q ≡ true → Lacks 47 x → Lacks 47 y → p ++ x
+    ≡ q ++ y → (p ≡ q) × (x ≡ y)
 folder_parted [] [] x y folder folder' lacks lacks' same = (refl, same)
 folder_parted [] (b ∷ q) x y folder folder' lacks lacks' same = absurd (folder_has b q y folder' (rw same at lacks))
 folder_parted (a ∷ p) [] x y folder folder' lacks lacks' same = absurd (folder_has a p x folder (rw (← same) at lacks'))
@@ -95,7 +96,9 @@ decimal_apart m n small small' same =
 padded_lacks : (c k n : ℕ) → (c < 48) ⊎ (57 < c) → Lacks c (padded k n)
 unfolding padded
 padded_lacks c zero n apart = refl
-padded_lacks c (suc k) n apart = lacks_both c (padded k (n / 10)) ((48 + n % 10) ∷ []) (padded_lacks c k (n / 10) apart) (lacks-cons c (48 + n % 10) [] (ne_eqb (48 + n % 10) c (λ e. absurd (not_digit c (n % 10) (omega arith) apart e))) refl)
+padded_lacks c (suc k) n apart = lacks_both c (padded k (n / 10)) ((48 + n % 10) ∷ [])
+    (padded_lacks c k (n / 10) apart) (lacks-cons c (48 + n % 10) []
+    (ne_eqb (48 + n % 10) c (λ e. absurd (not_digit c (n % 10) (omega arith) apart e))) refl)
   where
     not_digit : (c d : ℕ) → d < 10 → (c < 48) ⊎ (57 < c) → 48 + d ≡ c → ⊥
     not_digit c d small (inl below) e = omega arith
@@ -108,13 +111,18 @@ no_slash_digit d small = agree_below_at (λ x. nat_eq (digit_glyph true x) 47) (
 no_at_digit : (d : ℕ) → d < 16 → nat_eq (digit_glyph true d) 64 ≡ false
 no_at_digit d small = agree_below_at (λ x. nat_eq (digit_glyph true x) 64) (λ x. false) 16 d refl small
 
-escaped_lacks : (c : ℕ) → is_plain c ≡ false → nat_eq 37 c ≡ false → ((d : ℕ) → d < 16 → nat_eq (digit_glyph true d) c ≡ false) → (bs : List ℕ) → Lacks c (escaped bs)
+escaped_lacks : (c : ℕ) → is_plain c ≡ false → nat_eq 37 c ≡ false
+    → ((d : ℕ) → d < 16 → nat_eq (digit_glyph true d) c ≡ false) → (bs : List ℕ) → Lacks c (escaped bs)
 unfolding escaped percent_encode_byte
 escaped_lacks c odd sign digit [] = refl
 escaped_lacks c odd sign digit (b ∷ bs) =
     cond_both (is_plain b) (b ∷ []) (percent_encode_byte b) (λ x. Lacks c (x ++ escaped bs))
-    (λ plain. lacks-cons c b (escaped bs) (ne_eqb b c (λ e. true≢false (sym plain ∙ ap is_plain e ∙ odd))) (escaped_lacks c odd sign digit bs))
-    (λ _. lacks-cons c 37 (digit_glyph true (b / 16 % 16) ∷ digit_glyph true (b % 16) ∷ escaped bs) sign (lacks-cons c (digit_glyph true (b / 16 % 16)) (digit_glyph true (b % 16) ∷ escaped bs) (digit (b / 16 % 16) (omega arith)) (lacks-cons c (digit_glyph true (b % 16)) (escaped bs) (digit (b % 16) (omega arith)) (escaped_lacks c odd sign digit bs))))
+    (λ plain. lacks-cons c b (escaped bs) (ne_eqb b c (λ e. true≢false (sym plain ∙ ap is_plain e ∙ odd)))
+    (escaped_lacks c odd sign digit bs))
+    (λ _. lacks-cons c 37 (digit_glyph true (b / 16 % 16) ∷ digit_glyph true (b % 16) ∷ escaped bs) sign
+    (lacks-cons c (digit_glyph true (b / 16 % 16)) (digit_glyph true (b % 16) ∷ escaped bs)
+    (digit (b / 16 % 16) (omega arith)) (lacks-cons c (digit_glyph true (b % 16)) (escaped bs)
+    (digit (b % 16) (omega arith)) (escaped_lacks c odd sign digit bs))))
 
 extension_lacks : (f : Format) → Lacks 47 (extension f)
 extension_lacks format.Lines = refl
@@ -129,23 +137,31 @@ branch_extension_lacks plan b = of (slice_get plan.branches b)
     of (Some s) = extension_lacks s.format
 
 -- the range's name, read from its front
-range_parts : (part : List ℕ) (lo hi : ℕ) (ext : List ℕ) → range_name part lo hi ext ≡ escaped part ++ 64 ∷ (offset lo ++ 45 ∷ (offset hi ++ 46 ∷ ext))
+range_parts : (part : List ℕ) (lo hi : ℕ) (ext : List ℕ) → range_name part lo hi ext
+    ≡ escaped part ++ 64 ∷ (offset lo ++ 45 ∷ (offset hi ++ 46 ∷ ext))
 range_parts part lo hi ext = simp append_assoc
 
 range_lacks : (part : List ℕ) (lo hi : ℕ) (ext : List ℕ) → Lacks 47 ext → Lacks 47 (range_name part lo hi ext)
 unfolding offset
 range_lacks part lo hi ext lacks = rw (range_parts part lo hi ext)
     (lacks_both 47 (escaped part) _ (escaped_lacks 47 refl refl no_slash_digit part)
-    (lacks-cons 47 64 (offset lo ++ 45 ∷ (offset hi ++ 46 ∷ ext)) refl (lacks_both 47 (offset lo) (45 ∷ (offset hi ++ 46 ∷ ext)) (padded_lacks 47 20 lo (inl (omega arith)))
-    (lacks-cons 47 45 (offset hi ++ 46 ∷ ext) refl (lacks_both 47 (offset hi) (46 ∷ ext) (padded_lacks 47 20 hi (inl (omega arith))) (lacks-cons 47 46 ext refl lacks))))))
+    (lacks-cons 47 64 (offset lo ++ 45 ∷ (offset hi ++ 46 ∷ ext)) refl
+    (lacks_both 47 (offset lo) (45 ∷ (offset hi ++ 46 ∷ ext)) (padded_lacks 47 20 lo (inl (omega arith)))
+    (lacks-cons 47 45 (offset hi ++ 46 ∷ ext) refl
+    (lacks_both 47 (offset hi) (46 ∷ ext) (padded_lacks 47 20 hi (inl (omega arith)))
+    (lacks-cons 47 46 ext refl lacks))))))
 
-range_apart : (part part' : List ℕ) (lo lo' hi hi' : ℕ) (ext ext' : List ℕ) → IsRange part lo hi → IsRange part' lo' hi' → range_name part lo hi ext ≡ range_name part' lo' hi' ext' → (part ≡ part') × (lo ≡ lo') × (hi ≡ hi')
+range_apart : (part part' : List ℕ) (lo lo' hi hi' : ℕ) (ext ext' : List ℕ) → IsRange part lo hi
+    → IsRange part' lo' hi' → range_name part lo hi ext ≡ range_name part' lo' hi' ext' → (part ≡ part') × (lo ≡ lo')
+    × (hi ≡ hi')
 range_apart part part' lo lo' hi hi' ext ext' range range' same =
-    let front = parted 64 (escaped part) (escaped part') _ _ (escaped_lacks 64 refl refl no_at_digit part) (escaped_lacks 64 refl refl no_at_digit part')
+    let front = parted 64 (escaped part) (escaped part') _ _ (escaped_lacks 64 refl refl no_at_digit part)
+    (escaped_lacks 64 refl refl no_at_digit part')
     (sym (range_parts part lo hi ext) ∙ same ∙ range_parts part' lo' hi' ext') in
     let first = parted_at (offset lo) (offset lo') _ _ (offsets_one_form.0 lo ∙ sym (offsets_one_form.0 lo')) front.1 in
     let after : offset hi ++ 46 ∷ ext ≡ offset hi' ++ 46 ∷ ext' = cc (first.1) in
-    let second = parted_at (offset hi) (offset hi') _ _ (offsets_one_form.0 hi ∙ sym (offsets_one_form.0 hi')) after in (
+    let second = parted_at (offset hi) (offset hi') _ _
+    (offsets_one_form.0 hi ∙ sym (offsets_one_form.0 hi')) after in (
       escapes_apart part part' range.0 range'.0 front.0,
       offsets_one_form.1 lo lo' (omega arith) (omega arith) first.0,
       offsets_one_form.1 hi hi' (omega arith) (omega arith) second.0,
@@ -157,11 +173,15 @@ abbrev placed : Plan → List ℕ → ℕ → ℕ → ℕ → List ℕ → List 
 placed plan part lo hi b place = decimal b ++ 47 ∷ (place ++ range_name part lo hi (branch_extension plan b))
 
 -- the part of a name behind `out/` and `err/`
-placed_apart : (plan plan' : Plan) (part part' : List ℕ) (lo lo' hi hi' b b' : ℕ) (place place' : List ℕ) → IsRange part lo hi → IsRange part' lo' hi' → IsPlaced (out b place) → IsPlaced (out b' place')
-    → placed plan part lo hi b place ≡ placed plan' part' lo' hi' b' place' → (part ≡ part') × (lo ≡ lo') × (hi ≡ hi') × (b ≡ b') × (place ≡ place')
+placed_apart : (plan plan' : Plan) (part part' : List ℕ) (lo lo' hi hi' b b' : ℕ) (place place' : List ℕ)
+    → IsRange part lo hi → IsRange part' lo' hi' → IsPlaced (out b place) → IsPlaced (out b' place')
+    → placed plan part lo hi b place ≡ placed plan' part' lo' hi' b' place' → (part ≡ part') × (lo ≡ lo') × (hi ≡ hi')
+    × (b ≡ b') × (place ≡ place')
 placed_apart plan plan' part part' lo lo' hi hi' b b' place place' range range' fine fine' same =
     let number = parted 47 (decimal b) (decimal b') _ _ (decimal_lacks b fine.0) (decimal_lacks b' fine'.0) same in
-    let folder = folder_parted place place' _ _ fine.1 fine'.1 (range_lacks part lo hi _ (branch_extension_lacks plan b)) (range_lacks part' lo' hi' _ (branch_extension_lacks plan' b')) number.1 in
+    let folder = folder_parted place place' _ _ fine.1 fine'.1
+    (range_lacks part lo hi _ (branch_extension_lacks plan b))
+    (range_lacks part' lo' hi' _ (branch_extension_lacks plan' b')) number.1 in
     let ranges = range_apart part part' lo lo' hi hi' _ _ range range' folder.1 in
     (ranges.0, ranges.1, ranges.2, decimal_apart b b' fine.0 fine'.0 number.0, folder.0)
 
@@ -170,23 +190,31 @@ not_line : (b : ℕ) → b < 2 ^ 64 → decimal b ≡ codes "line" → ⊥
 not_line b small same = true≢false (sym (digits_decimal own b small) ∙ ap all_ascii_digits same)
 
 -- behind `err/` a branch's name isn't that of the file of bad lines
-placed_not_line : (plan plan' : Plan) (part part' : List ℕ) (lo lo' hi hi' b : ℕ) (place : List ℕ) → IsPlaced (err b place)
+placed_not_line : (plan plan' : Plan) (part part' : List ℕ) (lo lo' hi hi' b : ℕ) (place : List ℕ)
+    → IsPlaced (err b place)
     → placed plan part lo hi b place ≡ codes "line" ++ 47 ∷ range_name part' lo' hi' (codes "raw") → ⊥
-placed_not_line plan plan' part part' lo lo' hi hi' b place fine same = not_line b fine.0 (parted 47 (decimal b) (codes "line") _ _ (decimal_lacks b fine.0) refl same).0
+placed_not_line plan plan' part part' lo lo' hi hi' b place fine same =
+    not_line b fine.0 (parted 47 (decimal b) (codes "line") _ _ (decimal_lacks b fine.0) refl same).0
 
 -- a front, a number, a folder and the rest
-grouped : (front number folder rest : List ℕ) → ((front ++ number) ++ 47 ∷ folder) ++ rest ≡ front ++ (number ++ 47 ∷ (folder ++ rest))
+grouped : (front number folder rest : List ℕ) → ((front ++ number) ++ 47 ∷ folder) ++ rest
+    ≡ front ++ (number ++ 47 ∷ (folder ++ rest))
 grouped front number folder rest = simp append_assoc
 
-out_parts : (plan : Plan) (part : List ℕ) (lo hi b : ℕ) (place : List ℕ) → target_name plan part lo hi (out b place) ≡ codes "out/" ++ placed plan part lo hi b place
+out_parts : (plan : Plan) (part : List ℕ) (lo hi b : ℕ) (place : List ℕ) → target_name plan part lo hi (out b place)
+    ≡ codes "out/" ++ placed plan part lo hi b place
 unfolding target_name
-out_parts plan part lo hi b place = grouped (codes "out/") (decimal b) place (range_name part lo hi (branch_extension plan b))
+out_parts plan part lo hi b place = grouped (codes "out/") (decimal b) place
+    (range_name part lo hi (branch_extension plan b))
 
-err_parts : (plan : Plan) (part : List ℕ) (lo hi b : ℕ) (place : List ℕ) → target_name plan part lo hi (err b place) ≡ codes "err/" ++ placed plan part lo hi b place
+err_parts : (plan : Plan) (part : List ℕ) (lo hi b : ℕ) (place : List ℕ) → target_name plan part lo hi (err b place)
+    ≡ codes "err/" ++ placed plan part lo hi b place
 unfolding target_name
-err_parts plan part lo hi b place = grouped (codes "err/") (decimal b) place (range_name part lo hi (branch_extension plan b))
+err_parts plan part lo hi b place = grouped (codes "err/") (decimal b) place
+    (range_name part lo hi (branch_extension plan b))
 
-bad_parts : (plan : Plan) (part : List ℕ) (lo hi : ℕ) → target_name plan part lo hi bad ≡ codes "err/" ++ (codes "line" ++ 47 ∷ range_name part lo hi (codes "raw"))
+bad_parts : (plan : Plan) (part : List ℕ) (lo hi : ℕ) → target_name plan part lo hi bad
+    ≡ codes "err/" ++ (codes "line" ++ 47 ∷ range_name part lo hi (codes "raw"))
 unfolding target_name
 bad_parts plan part lo hi = simp append_assoc
 
@@ -200,24 +228,33 @@ not_both_folders x y same = let first : ◌≡◌ {A = ℕ} 111 101 = ap (λ l. 
 
 pub names_apart : NamesTellApart
 names_apart plan plan' part part' lo lo' hi hi' (out b place) (out b' place') range range' fine fine' same =
-    let all = placed_apart plan plan' part part' lo lo' hi hi' b b' place place' range range' fine fine' (behind _ _ _ _ _ _ (sym (out_parts plan part lo hi b place) ∙ same ∙ out_parts plan' part' lo' hi' b' place')) in
+    let all = placed_apart plan plan' part part' lo lo' hi hi' b b' place place' range range' fine fine'
+    (behind _ _ _ _ _ _ (sym (out_parts plan part lo hi b place) ∙ same
+    ∙ out_parts plan' part' lo' hi' b' place')) in
     (all.0, all.1, all.2, cc (all.3, all.4))
 names_apart plan plan' part part' lo lo' hi hi' (err b place) (err b' place') range range' fine fine' same =
-    let all = placed_apart plan plan' part part' lo lo' hi hi' b b' place place' range range' fine fine' (behind _ _ _ _ _ _ (sym (err_parts plan part lo hi b place) ∙ same ∙ err_parts plan' part' lo' hi' b' place')) in
+    let all = placed_apart plan plan' part part' lo lo' hi hi' b b' place place' range range' fine fine'
+    (behind _ _ _ _ _ _ (sym (err_parts plan part lo hi b place) ∙ same
+    ∙ err_parts plan' part' lo' hi' b' place')) in
     (all.0, all.1, all.2, cc (all.3, all.4))
 names_apart plan plan' part part' lo lo' hi hi' (out b place) (err b' place') range range' fine fine' same =
-    absurd (not_both_folders _ _ (sym (out_parts plan part lo hi b place) ∙ same ∙ err_parts plan' part' lo' hi' b' place'))
+    absurd (not_both_folders _ _ (sym (out_parts plan part lo hi b place) ∙ same
+    ∙ err_parts plan' part' lo' hi' b' place'))
 names_apart plan plan' part part' lo lo' hi hi' (err b place) (out b' place') range range' fine fine' same =
-    absurd (not_both_folders _ _ (sym (out_parts plan' part' lo' hi' b' place') ∙ sym same ∙ err_parts plan part lo hi b place))
+    absurd (not_both_folders _ _ (sym (out_parts plan' part' lo' hi' b' place') ∙ sym same
+    ∙ err_parts plan part lo hi b place))
 names_apart plan plan' part part' lo lo' hi hi' (out b place) bad range range' fine fine' same =
     absurd (not_both_folders _ _ (sym (out_parts plan part lo hi b place) ∙ same ∙ bad_parts plan' part' lo' hi'))
 names_apart plan plan' part part' lo lo' hi hi' bad (out b' place') range range' fine fine' same =
     absurd (not_both_folders _ _ (sym (out_parts plan' part' lo' hi' b' place') ∙ sym same ∙ bad_parts plan part lo hi))
 names_apart plan plan' part part' lo lo' hi hi' (err b place) bad range range' fine fine' same =
-    absurd (placed_not_line plan plan' part part' lo lo' hi hi' b place fine (behind _ _ _ _ _ _ (sym (err_parts plan part lo hi b place) ∙ same ∙ bad_parts plan' part' lo' hi')))
+    absurd (placed_not_line plan plan' part part' lo lo' hi hi' b place fine
+    (behind _ _ _ _ _ _ (sym (err_parts plan part lo hi b place) ∙ same ∙ bad_parts plan' part' lo' hi')))
 names_apart plan plan' part part' lo lo' hi hi' bad (err b' place') range range' fine fine' same =
-    absurd (placed_not_line plan' plan part' part lo' lo hi' hi b' place' fine' (behind _ _ _ _ _ _ (sym (err_parts plan' part' lo' hi' b' place') ∙ sym same ∙ bad_parts plan part lo hi)))
+    absurd (placed_not_line plan' plan part' part lo' lo hi' hi b' place' fine'
+    (behind _ _ _ _ _ _ (sym (err_parts plan' part' lo' hi' b' place') ∙ sym same ∙ bad_parts plan part lo hi)))
 names_apart plan plan' part part' lo lo' hi hi' bad bad range range' fine fine' same =
     let folder = behind _ _ _ _ _ _ (sym (bad_parts plan part lo hi) ∙ same ∙ bad_parts plan' part' lo' hi') in
-    let ranges = range_apart part part' lo lo' hi hi' (codes "raw") (codes "raw") range range' (parted 47 (codes "line") (codes "line") _ _ refl refl folder).1 in
+    let ranges = range_apart part part' lo lo' hi hi' (codes "raw") (codes "raw") range range'
+    (parted 47 (codes "line") (codes "line") _ _ refl refl folder).1 in
     (ranges.0, ranges.1, ranges.2, refl)

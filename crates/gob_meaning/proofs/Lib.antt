@@ -1,7 +1,12 @@
 pub mod PlainLines
 pub mod Joins
-pub mod Examples
+pub mod Computed
 pub mod Quick
 pub mod Apart
-pub mod Keeps
+pub mod StepColumns
+pub mod StepRows
+pub mod FormatRows
 pub mod Placed
+pub mod Dates
+pub mod Fits
+pub mod Folders

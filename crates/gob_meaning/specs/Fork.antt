@@ -11,7 +11,9 @@ use Rattle.gob_plan.specs.declared.plan.ForkHow.TheVariants as fork_how
 use Rattle.gob_plan.specs.declared.plan.ForkSpec.{ForkSpec}
 use Rattle.gob_plan.specs.declared.plan.PlaceSpec.{PlaceSpec}
 use Rattle.gob_plan.specs.declared.plan.PlaceSpec.TheVariants as place
+use Rattle.gob_plan.specs.Rows.{value_of}
 use Rattle.gob_plan.specs.Tests.{test_holds}
+use Rattle.gob_meaning.specs.Days.{day_folder}
 
 -- the test is there and holds
 abbrev pub holds_if_there : Option TestSpec → List Column → Row → Bool
@@ -19,18 +21,19 @@ holds_if_there None columns row = false
 holds_if_there (Some test) columns row = test_holds test columns row
 
 -- the test of a branch holds
-abbrev pub branch_test : List TestSpec → List Column → Row → ℕ → Bool
-branch_test tests columns row b = holds_if_there (slice_get tests b) columns row
+abbrev pub branch_test_holds : List TestSpec → List Column → Row → ℕ → Bool
+branch_test_holds tests columns row b = holds_if_there (slice_get tests b) columns row
 
 -- the test of a branch before this one holds
-abbrev pub earlier_test : List TestSpec → List Column → Row → ℕ → Bool
-earlier_test tests columns row b = list_any (λ test. test_holds test columns row) (take b tests)
+abbrev pub earlier_test_holds : List TestSpec → List Column → Row → ℕ → Bool
+earlier_test_holds tests columns row b = list_any (λ test. test_holds test columns row) (take b tests)
 
 -- by the kind of fork
 abbrev pub picks_by : ForkHow → List TestSpec → List Column → Row → ℕ → Bool
 picks_by fork_how.All tests columns row b = true
-picks_by fork_how.Each tests columns row b = branch_test tests columns row b
-picks_by fork_how.First tests columns row b = branch_test tests columns row b && not (earlier_test tests columns row b)
+picks_by fork_how.Each tests columns row b = branch_test_holds tests columns row b
+picks_by fork_how.First tests columns row b =
+    branch_test_holds tests columns row b && not (earlier_test_holds tests columns row b)
 
 -- the branch takes the row
 unfoldable pub picks : ForkSpec → List Column → Row → ℕ → Bool
@@ -39,3 +42,4 @@ picks fork columns row b = picks_by fork.how fork.tests columns row b
 -- the folder of a row in its branch: empty, or with a '/' at its end
 unfoldable pub place_of : PlaceSpec → List Column → Row → List ℕ
 place_of place.Plain columns row = []
+place_of (place.Day column) columns row = day_folder (value_of column columns row.values)

@@ -1,5 +1,5 @@
 -- How a line is read as rows and how a row is written as a record, by format.
-use Rattle.std.specs.Prelude.{ℕ, cond, nat_eq, List, [], ◌∷◌, ◌++◌, map}
+use Rattle.std.specs.Prelude.{ℕ, if◌then◌else◌, nat_eq, List, [], ◌∷◌, ◌++◌, map}
 use Rattle.std.specs.declared.option.Option.{Option}
 use Rattle.std.specs.declared.option.Option.TheVariants.{None, Some}
 use Rattle.std.specs.Option.{option_map, option_and_then}
@@ -35,13 +35,13 @@ value_before (Some v) (Some vs) = Some (v ∷ vs)
 -- ---- lines
 
 -- the whole line is one text
-abbrev pub lines_decoded : List ℕ → Made Row
-lines_decoded line = row_of (cond (is_utf8 line) (Some (value.Text line ∷ [])) None)
+abbrev pub text_line_rows : List ℕ → Made Row
+text_line_rows line = row_of (if is_utf8 line then Some (value.Text line ∷ []) else None)
 
 -- one text without a line feed, and a line feed
-abbrev pub lines_encoded : List Value → Option (List ℕ)
-lines_encoded (value.Text t ∷ []) = cond (list_any (λ b. nat_eq b 10) t) None (Some (t ++ 10 ∷ []))
-lines_encoded _ = None
+abbrev pub text_record : List Value → Option (List ℕ)
+text_record (value.Text t ∷ []) = if list_any (λ b. nat_eq b 10) t then None else Some (t ++ 10 ∷ [])
+text_record _ = None
 
 -- ---- csv
 
@@ -56,15 +56,17 @@ abbrev pub field_values : List Column → List (List ℕ) → Option (List Value
 field_values [] [] = Some []
 field_values [] (f ∷ fs) = None
 field_values (c ∷ cs) [] = None
-field_values (c ∷ cs) (f ∷ fs) = value_before (cond (is_utf8 f) (field_value c.kind f) None) (field_values cs fs)
+field_values (c ∷ cs) (f ∷ fs) =
+    value_before (if is_utf8 f then field_value c.kind f else None) (field_values cs fs)
 
 -- the records that csv reads in the line, as an input of its own
-abbrev pub csv_decoded : List Column → List ℕ → Made Row
-csv_decoded columns line = made_each (λ fields. row_of (field_values columns fields)) (records default_config (strip_bom line))
+abbrev pub csv_line_rows : List Column → List ℕ → Made Row
+csv_line_rows columns line =
+    made_each (λ fields. row_of (field_values columns fields)) (records default_config (strip_bom line))
 
 -- the record that csv writes; Null is an empty field
-abbrev pub csv_encoded : List Value → List ℕ
-csv_encoded values = row_text default_writer (map value_text values)
+abbrev pub csv_record : List Value → List ℕ
+csv_record values = row_text default_writer (map value_text values)
 
 -- ---- json
 
@@ -87,9 +89,12 @@ member_values [] ms = Some []
 member_values (c ∷ cs) ms = value_before (member_or_null c.kind (get_member c.name ms)) (member_values cs ms)
 
 -- an empty line makes no row; else the line is one object, whose other members are passed over
-abbrev pub json_decoded : List Column → List ℕ → Made Row
-json_decoded columns [] = Some []
-json_decoded columns (b ∷ bs) = cond (is_utf8 (b ∷ bs)) (row_of (option_and_then (member_values columns) (option_and_then as_object (read (b ∷ bs))))) None
+abbrev pub json_line_rows : List Column → List ℕ → Made Row
+json_line_rows columns [] = Some []
+json_line_rows columns (b ∷ bs) =
+    if is_utf8 (b ∷ bs)
+    then row_of (option_and_then (member_values columns) (option_and_then as_object (read (b ∷ bs))))
+    else None
 
 -- a value as JSON
 abbrev pub value_data : Value → json.Data
@@ -105,19 +110,19 @@ members_of (c ∷ cs) [] = json.no_members
 members_of (c ∷ cs) (v ∷ vs) = json.put c.name (value_data v) (members_of cs vs)
 
 -- the compact object, and a line feed
-abbrev pub json_encoded : List Column → List Value → List ℕ
-json_encoded columns values = compact_text (json.object (members_of columns values)) ++ 10 ∷ []
+abbrev pub json_record : List Column → List Value → List ℕ
+json_record columns values = compact_text (json.object (members_of columns values)) ++ 10 ∷ []
 
 -- ---- all of them
 
 -- the rows that a line is, or Bad
-unfoldable pub decoded : Format → List Column → List ℕ → Made Row
-decoded format.Lines columns line = lines_decoded line
-decoded format.Csv columns line = csv_decoded columns line
-decoded format.Json columns line = json_decoded columns line
+unfoldable pub line_rows : Format → List Column → List ℕ → Made Row
+line_rows format.Lines columns line = text_line_rows line
+line_rows format.Csv columns line = csv_line_rows columns line
+line_rows format.Json columns line = json_line_rows columns line
 
 -- the record that a row is, with its line feed, or Bad
-unfoldable pub encoded : Format → List Column → Row → Option (List ℕ)
-encoded format.Lines columns row = lines_encoded row.values
-encoded format.Csv columns row = Some (csv_encoded row.values)
-encoded format.Json columns row = Some (json_encoded columns row.values)
+unfoldable pub record_of : Format → List Column → Row → Option (List ℕ)
+record_of format.Lines columns row = text_record row.values
+record_of format.Csv columns row = Some (csv_record row.values)
+record_of format.Json columns row = Some (json_record columns row.values)

@@ -1,14 +1,13 @@
--- A job, and the plan that a pipeline text stands for.
-use Rattle.std.specs.Prelude.{ℕ, ◌^◌, false, cond, List, [], ◌∷◌, codes}
-use Rattle.std.specs.declared.option.Option.{Option}
-use Rattle.std.specs.declared.option.Option.TheVariants.{None, Some}
-use Rattle.std.specs.Str.{bytes_eq}
+-- A job, and the plain one.
+use Rattle.std.specs.Prelude.{ℕ, ◌^◌, false, List, [], ◌∷◌, ◌++◌, codes}
 use Rattle.gob_plan.specs.declared.rows.Kind.TheVariants as kind
 use Rattle.gob_plan.specs.declared.plan.Format.TheVariants as format
 use Rattle.gob_plan.specs.declared.plan.ForkHow.TheVariants as fork_how
 use Rattle.gob_plan.specs.declared.plan.PlaceSpec.TheVariants as place
 use Rattle.gob_plan.specs.declared.plan.CommitPolicy.{CommitPolicy}
 use Rattle.gob_plan.specs.declared.plan.CommitPolicy.TheVariants.{Full}
+use Rattle.gob_plan.specs.declared.plan.CommitScope.{CommitScope}
+use Rattle.gob_plan.specs.declared.plan.CommitScope.TheVariants as scope
 use Rattle.gob_plan.specs.declared.plan.TurnRules.{TurnRules}
 use Rattle.gob_plan.specs.declared.plan.Limits.{Limits}
 use Rattle.gob_plan.specs.declared.plan.Plan.{Plan}
@@ -21,6 +20,7 @@ pub record Job : Type 0 where
   pub turns : TurnRules
   pub max_retries : ℕ
   pub policy : CommitPolicy
+  pub scope : CommitScope
   pub pipeline : List ℕ
 
 -- whole lines go as they are to one branch that writes whole lines
@@ -42,11 +42,11 @@ plain_file = codes "source.format=lines\nwriter.format=lines\n"
 
 -- its pipeline text: every key that bears on what is made, with its value
 abbrev pub plain_pipeline : List ℕ
-plain_pipeline = codes "source.format=lines\nsource.columns=\nsource.skip.header=false\nconverter.classes=\nfork.operator.class=all\nfork.branches=1\nfork.test.0=\nconverter.classes.0=\nqualitychecker.row.policies.0=\nqualitychecker.row.policy.types.0=\nwriter.format.0=lines\nwriter.placer.0=plain\n"
-
--- the plan of a pipeline text; so far the plain text alone has one, since no other is read yet
-unfoldable pub plan_of : List ℕ → Option Plan
-plan_of pipeline = cond (bytes_eq pipeline plain_pipeline) (Some plain_plan) None
+plain_pipeline =
+    codes "source.format=lines\nsource.columns=\nsource.skip.header=false\nconverter.classes=\n"
+    ++ codes "fork.operator.class=all\nfork.branches=1\nfork.test.0=\nconverter.classes.0=\n"
+    ++ codes "qualitychecker.row.policies.0=\nqualitychecker.row.policy.types.0=\n"
+    ++ codes "writer.format.0=lines\nwriter.placer.0=plain\n"
 
 -- the plain job of this name: nothing is limited, one unit is active and takes one pull
 abbrev pub plain_job : List ℕ → Job
@@ -57,5 +57,6 @@ plain_job name = record {
   turns = record { slots = 1; piece = 2 ^ 63; schedule = 0 ∷ [] };
   max_retries = 5;
   policy = Full;
+  scope = scope.Job;
   pipeline = plain_pipeline;
 }

@@ -2,6 +2,7 @@ pub mod Values
 pub mod Formats
 pub mod Steps
 pub mod Policies
+pub mod Days
 pub mod Fork
 pub mod Items
 pub mod Fold
@@ -11,4 +12,10 @@ pub mod Names
 pub mod Plans
 pub mod Job
 pub mod Laws
-pub mod Worked
+pub mod Samples
+pub mod TablesOfPlaces
+pub mod TablesOfValues
+pub mod TablesOfTests
+pub mod TablesOfSteps
+pub mod TablesOfPlans
+pub mod TablesOfUnits

@@ -26,6 +26,8 @@ range_name part lo hi ext = escaped part ++ 64 ∷ offset lo ++ 45 ∷ offset hi
 
 -- the name of a target, without the job's folder
 unfoldable pub target_name : Plan → List ℕ → ℕ → ℕ → Target → List ℕ
-target_name plan part lo hi (out b place) = codes "out/" ++ decimal b ++ 47 ∷ place ++ range_name part lo hi (branch_extension plan b)
-target_name plan part lo hi (err b place) = codes "err/" ++ decimal b ++ 47 ∷ place ++ range_name part lo hi (branch_extension plan b)
+target_name plan part lo hi (out b place) =
+    codes "out/" ++ decimal b ++ 47 ∷ place ++ range_name part lo hi (branch_extension plan b)
+target_name plan part lo hi (err b place) =
+    codes "err/" ++ decimal b ++ 47 ∷ place ++ range_name part lo hi (branch_extension plan b)
 target_name plan part lo hi bad = codes "err/line/" ++ range_name part lo hi (codes "raw")

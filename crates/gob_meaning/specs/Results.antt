@@ -1,5 +1,5 @@
 -- What becomes of a unit.
-use Rattle.std.specs.Prelude.{ℕ, ◌*◌, Bool, cond, not, ◌&&◌, nat_le, List, [], ◌∷◌, map, filter}
+use Rattle.std.specs.Prelude.{ℕ, ◌*◌, Bool, if◌then◌else◌, not, ◌&&◌, nat_le, List, [], ◌∷◌, map, filter}
 use Rattle.std.specs.declared.option.Option.{Option}
 use Rattle.std.specs.declared.option.Option.TheVariants.{None, Some}
 use Rattle.std.specs.Option.{option_map, unwrap_or}
@@ -28,49 +28,52 @@ abbrev pub branch_count : (BranchCounts → ℕ) → ℕ → Counts → ℕ
 branch_count f b counts = unwrap_or (option_map f (slice_get counts.branches b)) 0
 
 -- the count that a counter names
-abbrev pub counted : Counter → Counts → ℕ
-counted counter.Records c = c.records
-counted counter.Bad c = c.bad
-counted counter.Rows c = c.rows
-counted counter.Unrouted c = c.unrouted
-counted (counter.Written b) c = branch_count (λ x. x.written) b c
-counted (counter.Errors b) c = branch_count (λ x. x.errors) b c
-counted (counter.Optional b) c = branch_count (λ x. x.optional) b c
+abbrev pub count_of : Counter → Counts → ℕ
+count_of counter.Records c = c.records
+count_of counter.Bad c = c.bad
+count_of counter.Rows c = c.rows
+count_of counter.Unrouted c = c.unrouted
+count_of (counter.Written b) c = branch_count (λ x. x.written) b c
+count_of (counter.Errors b) c = branch_count (λ x. x.errors) b c
+count_of (counter.Optional b) c = branch_count (λ x. x.optional) b c
 
 -- a count is within a range, or at most so many thousandths of another
 abbrev pub rule_holds : TaskRule → Counts → Bool
-rule_holds (Range c low high) n = nat_le low (counted c n) && nat_le (counted c n) high
-rule_holds (Share c of permille) n = nat_le (counted c n * 1000) (counted of n * permille)
+rule_holds (Range c low high) n = nat_le low (count_of c n) && nat_le (count_of c n) high
+rule_holds (Share c of permille) n = nat_le (count_of c n * 1000) (count_of of n * permille)
 
 -- the policy fails the unit
 abbrev pub fails_task : TaskPolicy → Counts → Bool
 fails_task p n = p.fails && not (rule_holds p.rule n)
 
 -- the policy fails and only warns
-abbrev pub warns_of : TaskPolicy → Counts → Bool
-warns_of p n = not p.fails && not (rule_holds p.rule n)
+abbrev pub warns_task : TaskPolicy → Counts → Bool
+warns_task p n = not p.fails && not (rule_holds p.rule n)
 
 -- the index of the first policy that fails the unit
 abbrev pub first_failing : List (ℕ × TaskPolicy) → Counts → Option ℕ
 first_failing [] n = None
-first_failing (p ∷ ps) n = cond (fails_task p.1 n) (Some p.0) (first_failing ps n)
+first_failing (p ∷ ps) n = if fails_task p.1 n then Some p.0 else first_failing ps n
 
 -- the indices of the policies that warn
 unfoldable pub warnings_of : List TaskPolicy → Counts → List ℕ
-warnings_of policies n = map (λ p. p.0) (filter (λ p. warns_of p.1 n) (enumerate_from 0 policies))
+warnings_of policies n = map (λ p. p.0) (filter (λ p. warns_task p.1 n) (enumerate_from 0 policies))
 
 -- a failing policy fails the unit, and else it is good with its warnings
-abbrev pub judged : Plan → Counts → Option ℕ → Verdict
-judged plan n (Some index) = failed (Policy index)
-judged plan n None = good n (warnings_of plan.task_policies n)
+abbrev pub verdict_by_policies : Plan → Counts → Option ℕ → Verdict
+verdict_by_policies plan n (Some index) = failed (Policy index)
+verdict_by_policies plan n None = good n (warnings_of plan.task_policies n)
 
 -- a unit that isn't stopped must end in a line feed, and then its counts are judged
 abbrev pub unless_stopped : Plan → ℕ → List ℕ → Option Cause → Verdict
 unless_stopped plan lo bytes (Some cause) = failed cause
-unless_stopped plan lo bytes None = cond (ends_in_lf bytes)
-    (let n = counts_of plan (unit_fold plan lo bytes) in judged plan n (first_failing (enumerate_from 0 plan.task_policies) n))
-    (failed Torn)
+unless_stopped plan lo bytes None =
+    let n = counts_of plan (unit_fold plan lo bytes) in
+    if ends_in_lf bytes then verdict_by_policies plan n (first_failing (enumerate_from 0 plan.task_policies) n)
+    else failed Torn
 
 -- the result of a unit whose bytes these are
 unfoldable pub verdict_of : Plan → WorkUnit → List ℕ → Verdict
-verdict_of plan unit bytes = cond unit.listed (unless_stopped plan unit.lo bytes (stop_of plan (unit_fold plan unit.lo bytes))) (failed Gone)
+verdict_of plan unit bytes =
+    if unit.listed then unless_stopped plan unit.lo bytes (stop_of plan (unit_fold plan unit.lo bytes))
+    else failed Gone

@@ -1,5 +1,5 @@
 -- Values as texts, and texts as values.
-use Rattle.std.specs.Prelude.{ℕ, Bool, true, false, cond, ℤ, pos, int_lt, List, [], codes}
+use Rattle.std.specs.Prelude.{ℕ, Bool, true, false, if◌then◌else◌, ◌==◌, ℤ, pos, negsuc, List, [], codes}
 use Rattle.std.specs.declared.option.Option.{Option}
 use Rattle.std.specs.declared.option.Option.TheVariants.{None, Some}
 use Rattle.std.specs.Option.{option_map}
@@ -18,7 +18,9 @@ bool_text false = codes "false"
 
 -- a truth value is one of two words
 abbrev pub bool_read : List ℕ → Option Bool
-bool_read text = cond (bytes_eq text (codes "true")) (Some true) (cond (bytes_eq text (codes "false")) (Some false) None)
+bool_read text =
+    if bytes_eq text (codes "true") then Some true
+    else (if bytes_eq text (codes "false") then Some false else None)
 
 -- a value of this kind, read from a text
 abbrev pub value_read : Kind → List ℕ → Option Value
@@ -35,7 +37,8 @@ value_text (value.Text t) = t
 
 -- an integer as a truth value: 0 and 1 alone
 abbrev pub bool_of_int : ℤ → Option Bool
-bool_of_int n = cond (int_lt n (pos 0)) None (cond (int_lt n (pos 1)) (Some false) (cond (int_lt n (pos 2)) (Some true) None))
+bool_of_int (negsuc n) = None
+bool_of_int (pos n) = if n == 0 then Some false else (if n == 1 then Some true else None)
 
 -- a truth value as an integer
 abbrev pub int_of_bool : Bool → ℤ

@@ -8,7 +8,7 @@ use Rattle.std.specs.Ordering.{ordering_reverse, is_gt}
 use Rattle.std.specs.Cmp.Lexicographic.{nat_list_cmp_total}
 use Rattle.std.specs.List.{insert, remove}
 use Rattle.std.specs.Str.{bytes_eq}
-use Rattle.gob_bytes.specs.Tables.{Table, name_cmp, at_name, with_name, names_of, Rising}
+use Rattle.gob_bytes.specs.Tables.{Table, name_cmp, at_name, with_name, names_of, IsInByteOrder}
 use Rattle.gob_bytes.proofs.Tables.{same_name, name_itself, two_names, level_names, less_apart, greater_less, less_then, rising_tail, none_below, at_from_member}
 use Rattle.gob_memory.specs.Places.{rank_of, without_name, StandsAt, GoesAt}
 
@@ -22,13 +22,13 @@ rank-le (e ∷ es) name = elim (is_gt (name_cmp name e.0)) as (λ b. cond b (suc
   | false ↦ omega arith
 ]
 
-ahead : {X : Type 0} (es : Table X) (low : List ℕ) (m : ℕ) (d : List ℕ × X) → Rising (low ∷ names_of es) → m < length es → name_cmp low (get_or es m d).0 ≡ Less
+ahead : {X : Type 0} (es : Table X) (low : List ℕ) (m : ℕ) (d : List ℕ × X) → IsInByteOrder (low ∷ names_of es) → m < length es → name_cmp low (get_or es m d).0 ≡ Less
 ahead [] low m d rising within = absurd (omega (arith, within))
 ahead (e ∷ es) low zero d rising within = rising.0
 ahead (e ∷ es) low (suc m) d rising within = less_then low e.0 (get_or es m d).0 rising.0 (ahead es e.0 m d rising.1 (omega (arith, within)))
 
 -- a name that is passed is below the rank
-pub passed : {X : Type 0} (t : Table X) (name : List ℕ) (m : ℕ) (d : List ℕ × X) → Rising (names_of t) → m < length t → name_cmp name (get_or t m d).0 ≡ Greater → m < rank_of t name
+pub passed : {X : Type 0} (t : Table X) (name : List ℕ) (m : ℕ) (d : List ℕ × X) → IsInByteOrder (names_of t) → m < length t → name_cmp name (get_or t m d).0 ≡ Greater → m < rank_of t name
 passed [] name m d rising within above = absurd (omega (arith, within))
 passed (e ∷ es) name zero d rising within above = rw above (omega arith)
 passed (e ∷ es) name (suc m) d rising within above =
@@ -53,11 +53,11 @@ stopped (e ∷ es) name (suc m) d within below =
     ]
 
 -- what stands at a place is what a look-up answers
-pub at-stands : {X : Type 0} (t : Table X) (name : List ℕ) (i : ℕ) (x : X) → Rising (names_of t) → i < length t → get_or t i (name, x) ≡ (name, x) → at_name t name ≡ Some x
+pub at-stands : {X : Type 0} (t : Table X) (name : List ℕ) (i : ℕ) (x : X) → IsInByteOrder (names_of t) → i < length t → get_or t i (name, x) ≡ (name, x) → at_name t name ≡ Some x
 at-stands t name i x rising within is = at_from_member t name x rising (i, within, is)
 
 -- where the rank holds another name, the name isn't there
-pub at-rank : {X : Type 0} (t : Table X) (name : List ℕ) → Rising (names_of t) → ((d : List ℕ × X) → rank_of t name < length t → (get_or t (rank_of t name) d).0 ≡ name → ⊥) → at_name t name ≡ None
+pub at-rank : {X : Type 0} (t : Table X) (name : List ℕ) → IsInByteOrder (names_of t) → ((d : List ℕ × X) → rank_of t name < length t → (get_or t (rank_of t name) d).0 ≡ name → ⊥) → at_name t name ≡ None
 at-rank [] name rising apart = refl
 at-rank {X} (e ∷ es) name rising apart = cases (name_cmp name e.0) refl (at-rank es name (rising_tail e.0 (names_of es) rising))
   where
@@ -77,14 +77,14 @@ not_greater x y same above = less_apart y x (greater_less x y above) (sym same)
 apart_greater : (x y : List ℕ) → name_cmp x y ≡ Greater → bytes_eq x y ≡ false
 apart_greater x y above = two_names x y (λ same. not_greater x y same above)
 
-pub goes : {X : Type 0} (t : Table X) (name : List ℕ) (place : ℕ) → Rising (names_of t) → place ≡ rank_of t name → ((d : List ℕ × X) → place < length t → (get_or t place d).0 ≡ name → ⊥) → GoesAt t name place
+pub goes : {X : Type 0} (t : Table X) (name : List ℕ) (place : ℕ) → IsInByteOrder (names_of t) → place ≡ rank_of t name → ((d : List ℕ × X) → place < length t → (get_or t place d).0 ≡ name → ⊥) → GoesAt t name place
 goes t name place rising is apart = record {
   rank = sym is;
   within = omega (arith, is, rank-le t name);
   absent = at-rank t name rising (λ d below same. apart d (omega (arith, is, below)) (ap (λ i. (get_or t i d).0) is ∙ same));
 }
 
-pub value_there : {X : Type 0} (t : Table X) (name : List ℕ) (i : ℕ) (d : List ℕ × X) → Rising (names_of t) → StandsAt t name i → at_name t name ≡ Some (get_or t i d).1
+pub value_there : {X : Type 0} (t : Table X) (name : List ℕ) (i : ℕ) (d : List ℕ × X) → IsInByteOrder (names_of t) → StandsAt t name i → at_name t name ≡ Some (get_or t i d).1
 value_there t name i d rising at =
     let x = (get_or t i d).1 in
     at-stands t name i x rising at.within (get_or_default t i (name, x) d at.within ∙ ap (λ n. (n, x)) (at.named d))
@@ -113,7 +113,7 @@ with-stands t name x i at = along x t i at.rank at.within at.named
 pub with-changed : {X : Type 0} (t : Table X) (name : List ℕ) (i : ℕ) (e : List ℕ × X) (x : X) → StandsAt t name i → e ≡ get_or t i e → set t i (e.0, x) ≡ with_name t name x
 with-changed t name i e x at is = ap (λ (f : List ℕ × _). set t i (f.0, x)) is ∙ ap (λ n. set t i (n, x)) (at.named e) ∙ sym (with-stands t name x i at)
 
-pub at-changed : {X : Type 0} (t : Table X) (name : List ℕ) (i : ℕ) (e : List ℕ × X) → Rising (names_of t) → StandsAt t name i → e ≡ get_or t i e → at_name t name ≡ Some e.1
+pub at-changed : {X : Type 0} (t : Table X) (name : List ℕ) (i : ℕ) (e : List ℕ × X) → IsInByteOrder (names_of t) → StandsAt t name i → e ≡ get_or t i e → at_name t name ≡ Some e.1
 at-changed t name i e rising at is = value_there t name i e rising at ∙ ap (λ (f : List ℕ × _). Some f.1) (sym is)
 
 -- a value at a name that wasn't there
@@ -173,7 +173,7 @@ cond_none false true x y apart = refl
 cond_none false false x y apart = refl
 
 -- a look-up after a name was taken away
-pub at-without : {X : Type 0} (t : Table X) (name q : List ℕ) → Rising (names_of t) → at_name (without_name t name) q ≡ cond (bytes_eq q name) None (at_name t q)
+pub at-without : {X : Type 0} (t : Table X) (name q : List ℕ) → IsInByteOrder (names_of t) → at_name (without_name t name) q ≡ cond (bytes_eq q name) None (at_name t q)
 at-without {X} [] name q rising = nothing (bytes_eq q name)
   where
     nothing : (b : Bool) → let none : Option X = None in none ≡ cond b none none
@@ -195,23 +195,23 @@ at-without {X} (e ∷ es) name q rising = cases (bytes_eq name e.0) refl (at-wit
         ∙ cond_none (bytes_eq q e.0) (bytes_eq q name) e.1 (at_name es q)
         (λ a b. let both : bytes_eq name e.0 ≡ true = subst (λ n. bytes_eq n e.0 ≡ true) (same_name q name b) a in cc))
 
-rising_shorter : (low x : List ℕ) (xs : List (List ℕ)) → name_cmp low x ≡ Less → Rising (x ∷ xs) → Rising (low ∷ xs)
+rising_shorter : (low x : List ℕ) (xs : List (List ℕ)) → name_cmp low x ≡ Less → IsInByteOrder (x ∷ xs) → IsInByteOrder (low ∷ xs)
 rising_shorter low x [] below rising = tt
 rising_shorter low x (y ∷ ys) below rising = (less_then low x y below rising.0, rising.1)
 
-rising_under : {X : Type 0} (t : Table X) (low name : List ℕ) → Rising (low ∷ names_of t) → Rising (low ∷ names_of (without_name t name))
+rising_under : {X : Type 0} (t : Table X) (low name : List ℕ) → IsInByteOrder (low ∷ names_of t) → IsInByteOrder (low ∷ names_of (without_name t name))
 rising_under [] low name rising = tt
 rising_under {X} (e ∷ es) low name rising = cases (bytes_eq name e.0) refl (rising_under es e.0 name rising.1)
   where
-    cases : (b : Bool) → bytes_eq name e.0 ≡ b → Rising (e.0 ∷ names_of (without_name es name)) → Rising (low ∷ names_of (without_name (e ∷ es) name))
+    cases : (b : Bool) → bytes_eq name e.0 ≡ b → IsInByteOrder (e.0 ∷ names_of (without_name es name)) → IsInByteOrder (low ∷ names_of (without_name (e ∷ es) name))
     cases true is later = rw is (rising_shorter low e.0 (names_of es) rising.0 rising.1)
     cases false is later = rw is (rising.0, later)
 
 -- names stay in order
-pub rising-without : {X : Type 0} (t : Table X) (name : List ℕ) → Rising (names_of t) → Rising (names_of (without_name t name))
+pub rising-without : {X : Type 0} (t : Table X) (name : List ℕ) → IsInByteOrder (names_of t) → IsInByteOrder (names_of (without_name t name))
 rising-without [] name rising = tt
 rising-without {X} (e ∷ es) name rising = cases (bytes_eq name e.0) refl
   where
-    cases : (b : Bool) → bytes_eq name e.0 ≡ b → Rising (names_of (without_name (e ∷ es) name))
+    cases : (b : Bool) → bytes_eq name e.0 ≡ b → IsInByteOrder (names_of (without_name (e ∷ es) name))
     cases true is = rw is (rising_tail e.0 (names_of es) rising)
     cases false is = rw is (rising_under es e.0 name rising)

@@ -1,4 +1,3 @@
-pub mod Counts
 pub mod Order
 pub mod Places
 pub mod Planned

@@ -1,7 +1,6 @@
 //! Failures by the number of the call.
 
 ghost use Rattle.std.specs.Prelude.{◌≡◌, ◌↔◌, IsTrue};
-ghost use Rattle.gob_memory.specs.Counts.{one_more};
 
 /// The calls of one kind that are to fail, by their numbers from 0, and how many calls there were.
 #[derive(Drop)]
@@ -11,7 +10,7 @@ pub struct Planned {
 }
 
 impl Planned {
-    ghost use Rattle.gob_memory.specs.Planned.{IsDue, calls_of, numbers_of};
+    ghost use Rattle.gob_memory.specs.Planned.{CountsCall, IsDue, calls_of, numbers_of};
 
     pub fn new(numbers: Vec<u64>) -> Self
         ensures numbers { numbers_of result ≡ numbers.items }
@@ -23,8 +22,7 @@ impl Planned {
     /// Counts a call, and says whether it is to fail.
     pub fn fails_next(&mut self) -> bool
         ensures due { IsTrue result ↔ IsDue self.old }
-        ensures numbers { numbers_of self.new ≡ numbers_of self.old }
-        ensures calls { calls_of self.new ≡ one_more (calls_of self.old) }
+        ensures counted { CountsCall self.old self.new }
     {
         let due = self.numbers.contains(&self.calls);
         self.calls = self.calls.saturating_add(1);

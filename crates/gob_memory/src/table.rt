@@ -2,7 +2,7 @@
 
 ghost use Rattle.std.specs.Prelude.{◌≡◌, option_copied, ◌↔◌, IsSome, IsOk, IsTrue, MatchResult, OnOk, OnErr};
 ghost use Rattle.std.specs.declared.cmp.Ordering.TheVariants.{Greater};
-ghost use Rattle.gob_bytes.specs.Tables.{Rising, at_name, name_cmp, names_of, with_name};
+ghost use Rattle.gob_bytes.specs.Tables.{IsInByteOrder, at_name, name_cmp, names_of, with_name};
 ghost use Rattle.gob_memory.specs.Places.{GoesAt, StandsAt, rank_of, without_name};
 
 use gob_plan::{NoMemory, Text};
@@ -11,7 +11,7 @@ use std::cmp::Ordering;
 
 /// Where a name stands, or where it would go.
 pub fn find<V>(table: &[(Text, V)], name: &str) -> Result<usize, usize>
-    requires { Rising (names_of table.now) }
+    requires { IsInByteOrder (names_of table.now) }
     ensures { MatchResult result (StandsAt table.now name.now) (GoesAt table.now name.now) }
 {
     let place = rank(table, name);
@@ -24,7 +24,7 @@ pub fn find<V>(table: &[(Text, V)], name: &str) -> Result<usize, usize>
 
 // How many names are below this one, found by halving what is left.
 fn rank<V>(table: &[(Text, V)], name: &str) -> usize
-    requires { Rising (names_of table.now) }
+    requires { IsInByteOrder (names_of table.now) }
     ensures { result ≡ rank_of table.now name.now }
 {
     let mut low = 0;
@@ -48,7 +48,7 @@ fn is_above(name: &str, other: &str) -> bool
 
 /// The value at a name.
 pub fn get<'a, V>(table: &'a [(Text, V)], name: &str) -> Option<&'a V>
-    requires { Rising (names_of table.now) }
+    requires { IsInByteOrder (names_of table.now) }
     ensures { option_copied result ≡ at_name table.now name.now }
 {
     match find(table, name) {
@@ -64,10 +64,11 @@ pub fn set<V: Drop>(
     name: &str,
     value: V,
 ) -> Result<(), NoMemory>
-    requires { Rising (names_of table.old.items) }
+    requires { IsInByteOrder (names_of table.old.items) }
     ensures ok { OnOk result (table.new.items ≡ with_name table.old.items name.now value) }
     ensures err { OnErr result (table.new.items ≡ table.old.items) }
     ensures there { IsSome (at_name table.old.items name.now) → IsOk result }
+    ensures rising { IsInByteOrder (names_of table.new.items) }
 {
     match find(table.as_slice(), name) {
         Ok(place) => {
@@ -86,9 +87,10 @@ pub fn set<V: Drop>(
 
 /// Takes a name away, and answers its value.
 pub fn take<V>(table: &mut Vec<(Text, V)>, name: &str) -> Option<V>
-    requires { Rising (names_of table.old.items) }
+    requires { IsInByteOrder (names_of table.old.items) }
     ensures value { result ≡ at_name table.old.items name.now }
     ensures after { table.new.items ≡ without_name table.old.items name.now }
+    ensures rising { IsInByteOrder (names_of table.new.items) }
 {
     match find(table.as_slice(), name) {
         Ok(place) => {

@@ -13,9 +13,13 @@ abbrev pub distinct : List Column → Bool
 distinct [] = true
 distinct (c ∷ cs) = not (is_there c.name cs) && distinct cs
 
--- from one to 64 columns with different names
+-- the most columns of a list
+abbrev pub max_columns : ℕ
+max_columns = 64
+
+-- one column or more, not too many, with different names
 unfoldable pub is_columns : List Column → Bool
-is_columns columns = nat_le 1 (length columns) && (nat_le (length columns) 64 && distinct columns)
+is_columns columns = nat_le 1 (length columns) && (nat_le (length columns) max_columns && distinct columns)
 
 -- the place of the first column with this name
 abbrev pub position_of : List ℕ → List Column → Option ℕ

@@ -62,7 +62,8 @@ one_then passes more (c ∷ cs) = passes c && more cs
 abbrev pub matches : List ℕ → List ℕ → Bool
 matches [] [] = true
 matches [] (c ∷ cs) = false
-matches (p ∷ ps) cs = cond (nat_eq p 42) (list_any (λ left. matches ps left) (endings cs)) (one_then (λ c. nat_eq p 63 || nat_eq p c) (λ left. matches ps left) cs)
+matches (p ∷ ps) cs = cond (nat_eq p 42) (list_any (λ left. matches ps left) (endings cs))
+    (one_then (λ c. nat_eq p 63 || nat_eq p c) (λ left. matches ps left) cs)
 
 -- the same for texts, by their characters
 abbrev pub like : List ℕ → List ℕ → Bool
@@ -88,7 +89,8 @@ check_holds (check.Bytes low high) v = of_text (length_within low high) v
 
 -- what a test says of a row; a negated one says the opposite, of Null too
 unfoldable pub test_holds : TestSpec → List Column → Row → Bool
-test_holds t columns row = let holds = check_holds t.check (value_of t.column columns row.values) in cond t.negated (not holds) holds
+test_holds t columns row = let holds = check_holds t.check (value_of t.column columns row.values) in cond t.negated
+    (not holds) holds
 
 -- the kinds that may be compared so
 abbrev pub takes : How → Kind → Bool
@@ -105,7 +107,8 @@ check_takes (check.Compare h w) k = takes h k
 check_takes (check.Like pattern) k = is_text k
 check_takes (check.Bytes low high) k = is_text k
 
--- its own words are right for this kind: a value to compare with is of the kind, and a least length isn't above the greatest
+-- its own words are right for this kind: a value to compare with is of the kind, and a least length isn't above the
+-- greatest
 abbrev pub check_is_right : Check → Kind → Bool
 check_is_right check.Null k = true
 check_is_right (check.Compare h w) k = is_of k w

@@ -4,9 +4,9 @@ ghost use Rattle.std.specs.Prelude.{◌≡◌, IfOk, MatchResult, length, slice_
 ghost use Rattle.gob_plan.specs.Columns.{is_columns, position_of, distinct, is_there};
 ghost use Rattle.std.specs.Option.{option_copied};
 
-use crate::lists::copy_each;
 use crate::rows::Column;
 use crate::{List, NoMemory};
+use std::alloc::AllocError;
 use std::marker::Model;
 
 const MOST: usize = 64;
@@ -29,10 +29,22 @@ impl Model for Columns {
     ghost invariant = { λ c. is_columns c.list ≡ true };
 }
 
+impl Clone for Columns {
+    ghost is_clone = { λ columns c. c ≡ columns };
+
+    fn clone(&self) -> Result<Self, AllocError> {
+        Ok(Columns {
+            list: self.list.clone()?,
+        })
+    }
+}
+
 impl Columns {
     /// The list is handed back where it is empty, too long or has a name twice.
     pub fn new(list: List<Column>) -> Result<Columns, List<Column>>
-        ensures { MatchResult result (λ c. (c ≡ list) × (is_columns list ≡ true)) (λ back. (back ≡ list) × (is_columns list ≡ false)) }
+        ensures { MatchResult result
+            (λ c. (c ≡ list) × (is_columns list ≡ true))
+            (λ back. (back ≡ list) × (is_columns list ≡ false)) }
     {
         if is_proper(list.as_slice()) {
             Ok(Columns { list })
@@ -74,9 +86,7 @@ impl Columns {
     pub fn copy(&self) -> Result<Self, NoMemory>
         ensures { IfOk result (λ c. c ≡ self.now) }
     {
-        Ok(Columns {
-            list: copy_each(&self.list)?,
-        })
+        Ok(self.clone()?)
     }
 }
 

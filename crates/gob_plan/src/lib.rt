@@ -4,19 +4,20 @@
 mod checks;
 mod columns;
 mod faults;
-mod lists;
+mod like;
 mod plan;
 mod rows;
 mod small;
 mod steps;
 mod units;
 
-pub use checks::{Check, How, TestSpec};
+pub use checks::{Check, How, TestSpec, holds};
 pub use columns::Columns;
 pub use faults::{Failed, NoMemory};
+pub use like::split_first;
 pub use plan::{
-    BranchSpec, CommitPolicy, Counter, ForkHow, ForkSpec, Format, Limits, Mode, PlaceSpec, Plan,
-    PolicySpec, TaskPolicy, TaskRule, TurnRules,
+    BranchSpec, CommitPolicy, CommitScope, Counter, ForkHow, ForkSpec, Format, Limits, Mode,
+    PlaceSpec, Plan, PolicySpec, TaskPolicy, TaskRule, TurnRules,
 };
 pub use rows::{Column, Kind, Row, Value};
 pub use small::{Bytes, List, Text};

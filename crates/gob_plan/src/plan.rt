@@ -2,7 +2,6 @@
 
 ghost use Rattle.std.specs.Prelude.{◌≡◌, IfOk};
 
-use crate::lists::{Element, copy_each, copy_plain};
 use crate::{Columns, List, NoMemory, StepSpec, TestSpec, Text};
 
 /// How records are spelled in bytes.
@@ -24,7 +23,7 @@ pub enum Mode {
     Optional,
 }
 
-#[derive(Drop)]
+#[derive(Clone, Drop)]
 pub struct PolicySpec {
     pub test: TestSpec,
     pub mode: Mode,
@@ -34,16 +33,7 @@ impl PolicySpec {
     pub fn copy(&self) -> Result<Self, NoMemory>
         ensures { IfOk result (λ c. c ≡ self.now) }
     {
-        Ok(PolicySpec {
-            test: self.test.copy()?,
-            mode: self.mode,
-        })
-    }
-}
-
-impl Element for PolicySpec {
-    fn copied(&self) -> Result<Self, NoMemory> {
-        self.copy()
+        Ok(self.clone()?)
     }
 }
 
@@ -57,7 +47,7 @@ pub enum ForkHow {
     First,
 }
 
-#[derive(Drop)]
+#[derive(Clone, Drop)]
 pub struct ForkSpec {
     pub how: ForkHow,
     pub branches: u32,
@@ -68,22 +58,28 @@ impl ForkSpec {
     pub fn copy(&self) -> Result<Self, NoMemory>
         ensures { IfOk result (λ c. c ≡ self.now) }
     {
-        Ok(ForkSpec {
-            how: self.how,
-            branches: self.branches,
-            tests: copy_each(&self.tests)?,
-        })
+        Ok(self.clone()?)
     }
 }
 
 /// In which folder of its branch a row is placed.
-#[derive(Clone, Copy, PartialEq, Eq)]
+#[derive(Clone, Drop)]
 pub enum PlaceSpec {
     /// In none.
     Plain,
+    /// In that of the day of the column's value, seconds since 1970-01-01.
+    Day { column: Text },
 }
 
-#[derive(Drop)]
+impl PlaceSpec {
+    pub fn copy(&self) -> Result<Self, NoMemory>
+        ensures { IfOk result (λ c. c ≡ self.now) }
+    {
+        Ok(self.clone()?)
+    }
+}
+
+#[derive(Clone, Drop)]
 pub struct BranchSpec {
     pub steps: List<StepSpec>,
     pub policies: List<PolicySpec>,
@@ -95,18 +91,7 @@ impl BranchSpec {
     pub fn copy(&self) -> Result<Self, NoMemory>
         ensures { IfOk result (λ c. c ≡ self.now) }
     {
-        Ok(BranchSpec {
-            steps: copy_each(&self.steps)?,
-            policies: copy_each(&self.policies)?,
-            format: self.format,
-            place: self.place,
-        })
-    }
-}
-
-impl Element for BranchSpec {
-    fn copied(&self) -> Result<Self, NoMemory> {
-        self.copy()
+        Ok(self.clone()?)
     }
 }
 
@@ -145,7 +130,7 @@ pub struct TaskPolicy {
     pub fails: bool,
 }
 
-#[derive(Drop)]
+#[derive(Clone, Drop)]
 pub struct Plan {
     pub format: Format,
     pub columns: Columns,
@@ -161,16 +146,7 @@ impl Plan {
     pub fn copy(&self) -> Result<Self, NoMemory>
         ensures { IfOk result (λ c. c ≡ self.now) }
     {
-        Ok(Plan {
-            format: self.format,
-            columns: self.columns.copy()?,
-            skip_header: self.skip_header,
-            steps: copy_each(&self.steps)?,
-            skip_errors: self.skip_errors,
-            fork: self.fork.copy()?,
-            branches: copy_each(&self.branches)?,
-            task_policies: copy_plain(&self.task_policies)?,
-        })
+        Ok(self.clone()?)
     }
 }
 
@@ -183,8 +159,17 @@ pub enum CommitPolicy {
     Successful,
 }
 
+/// What a run commits at once.
+#[derive(Clone, Copy, PartialEq, Eq)]
+pub enum CommitScope {
+    /// All of its units.
+    Job,
+    /// The units of one dataset, and then those of the next.
+    Dataset,
+}
+
 /// How many units are active at once, how much one pull asks for, and whose turn it is.
-#[derive(Drop)]
+#[derive(Clone, Drop)]
 pub struct TurnRules {
     pub slots: u32,
     pub piece: u32,
@@ -195,16 +180,12 @@ impl TurnRules {
     pub fn copy(&self) -> Result<Self, NoMemory>
         ensures { IfOk result (λ c. c ≡ self.now) }
     {
-        Ok(TurnRules {
-            slots: self.slots,
-            piece: self.piece,
-            schedule: copy_plain(&self.schedule)?,
-        })
+        Ok(self.clone()?)
     }
 }
 
 /// Which partitions are kept, and how much of them one run takes.
-#[derive(Drop)]
+#[derive(Clone, Drop)]
 pub struct Limits {
     pub prefix: Text,
     pub max_bytes: u64,
@@ -215,10 +196,6 @@ impl Limits {
     pub fn copy(&self) -> Result<Self, NoMemory>
         ensures { IfOk result (λ c. c ≡ self.now) }
     {
-        Ok(Limits {
-            prefix: self.prefix.copy()?,
-            max_bytes: self.max_bytes,
-            max_new_units: self.max_new_units,
-        })
+        Ok(self.clone()?)
     }
 }

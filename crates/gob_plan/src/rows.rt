@@ -2,7 +2,6 @@
 
 ghost use Rattle.std.specs.Prelude.{◌≡◌, IfOk};
 
-use crate::lists::{Element, copy_each};
 use crate::{List, NoMemory, Text};
 
 /// What a column's values are, besides Null.
@@ -13,7 +12,7 @@ pub enum Kind {
     Text,
 }
 
-#[derive(Drop)]
+#[derive(Clone, Drop)]
 pub enum Value {
     Null,
     Bool(bool),
@@ -25,23 +24,12 @@ impl Value {
     pub fn copy(&self) -> Result<Self, NoMemory>
         ensures { IfOk result (λ c. c ≡ self.now) }
     {
-        Ok(match self {
-            Value::Null => Value::Null,
-            Value::Bool(b) => Value::Bool(*b),
-            Value::Int(n) => Value::Int(*n),
-            Value::Text(text) => Value::Text(text.copy()?),
-        })
-    }
-}
-
-impl Element for Value {
-    fn copied(&self) -> Result<Self, NoMemory> {
-        self.copy()
+        Ok(self.clone()?)
     }
 }
 
 /// One value for each column.
-#[derive(Drop)]
+#[derive(Clone, Drop)]
 pub struct Row {
     pub values: List<Value>,
 }
@@ -50,13 +38,11 @@ impl Row {
     pub fn copy(&self) -> Result<Self, NoMemory>
         ensures { IfOk result (λ c. c ≡ self.now) }
     {
-        Ok(Row {
-            values: copy_each(&self.values)?,
-        })
+        Ok(self.clone()?)
     }
 }
 
-#[derive(Drop)]
+#[derive(Clone, Drop)]
 pub struct Column {
     pub name: Text,
     pub kind: Kind,
@@ -66,15 +52,6 @@ impl Column {
     pub fn copy(&self) -> Result<Self, NoMemory>
         ensures { IfOk result (λ c. c ≡ self.now) }
     {
-        Ok(Column {
-            name: self.name.copy()?,
-            kind: self.kind,
-        })
-    }
-}
-
-impl Element for Column {
-    fn copied(&self) -> Result<Self, NoMemory> {
-        self.copy()
+        Ok(self.clone()?)
     }
 }

@@ -3,11 +3,12 @@
 ghost use Rattle.std.specs.Prelude.{◌≡◌, ◌++◌, ℕ, [], ◌∷◌, length, string_bytes, OnOk, OnErr, IfOk, IsTrue, ◌↔◌};
 
 use crate::NoMemory;
-use std::alloc::Global;
+use std::alloc::{AllocError, Global};
+use std::fmt;
 use std::marker::Model;
 
 /// A text that grows at its end. Contracts see its bytes, which are UTF-8.
-#[derive(Drop)]
+#[derive(Debug, Drop)]
 pub struct Text {
     inner: String,
 }
@@ -18,6 +19,15 @@ impl Model for Text {
     ghost Value = { List ℕ };
 
     ghost view = { λ t. string_bytes t.inner };
+}
+
+impl Clone for Text {
+    ghost is_clone = { λ text c. c ≡ text };
+
+    fn clone(&self) -> Result<Self, AllocError> {
+        let inner = String::from_str(*self.inner.allocator(), self.inner.as_str())?;
+        Ok(Text { inner })
+    }
 }
 
 impl Text {
@@ -33,10 +43,8 @@ impl Text {
     pub fn from_str(alloc: Global, text: &str) -> Result<Self, NoMemory>
         ensures { IfOk result (λ t. t ≡ text.now) }
     {
-        match String::from_str(alloc, text) {
-            Ok(inner) => Ok(Text { inner }),
-            Err(_) => Err(NoMemory),
-        }
+        let inner = String::from_str(alloc, text)?;
+        Ok(Text { inner })
     }
 
     /// The same text, without a copy.
@@ -77,16 +85,20 @@ impl Text {
         ensures ok { OnOk result (self.new ≡ self.old ++ text.now) }
         ensures err { OnErr result (self.new ≡ self.old) }
     {
-        match self.inner.push_str(text) {
-            Ok(()) => Ok(()),
-            Err(_) => Err(NoMemory),
-        }
+        self.inner.push_str(text)?;
+        Ok(())
     }
 
     pub fn copy(&self) -> Result<Self, NoMemory>
         ensures { IfOk result (λ t. t ≡ self.now) }
     {
-        Text::from_str(*self.inner.allocator(), self.inner.as_str())
+        Ok(self.clone()?)
+    }
+}
+
+impl fmt::Display for Text {
+    fn fmt<W: fmt::Write>(&self, f: &mut fmt::Formatter<W>) -> fmt::Result {
+        f.write_str(self.inner.as_str())
     }
 }
 
@@ -104,6 +116,15 @@ impl Model for Bytes {
     ghost view = { λ b. b.inner.items };
 }
 
+impl Clone for Bytes {
+    ghost is_clone = { λ bytes c. c ≡ bytes };
+
+    fn clone(&self) -> Result<Self, AllocError> {
+        let inner = Vec::from_slice(*self.inner.allocator(), self.inner.as_slice())?;
+        Ok(Bytes { inner })
+    }
+}
+
 impl Bytes {
     pub fn new(alloc: Global) -> Self
         ensures { result ≡ [] }
@@ -117,10 +138,8 @@ impl Bytes {
     pub fn from_slice(alloc: Global, bytes: &[u8]) -> Result<Self, NoMemory>
         ensures { IfOk result (λ b. b ≡ bytes.now) }
     {
-        match Vec::from_slice(alloc, bytes) {
-            Ok(inner) => Ok(Bytes { inner }),
-            Err(_) => Err(NoMemory),
-        }
+        let inner = Vec::from_slice(alloc, bytes)?;
+        Ok(Bytes { inner })
     }
 
     /// The same bytes, without a copy.
@@ -160,20 +179,19 @@ impl Bytes {
         ensures ok { OnOk result (self.new ≡ self.old ++ bytes.now) }
         ensures err { OnErr result (self.new ≡ self.old) }
     {
-        match self.inner.extend_from_slice(bytes) {
-            Ok(()) => Ok(()),
-            Err(_) => Err(NoMemory),
-        }
+        self.inner.extend_from_slice(bytes)?;
+        Ok(())
     }
 
     pub fn copy(&self) -> Result<Self, NoMemory>
         ensures { IfOk result (λ b. b ≡ self.now) }
     {
-        Bytes::from_slice(*self.inner.allocator(), self.inner.as_slice())
+        Ok(self.clone()?)
     }
 }
 
-/// A list that grows at its end. It has no `copy`: whoever holds one copies it element by element.
+/// A list that grows at its end. Its clone is one of each item; it has no `copy`, since an item's clone may differ from
+/// the item.
 #[derive(Drop)]
 pub struct List<T> {
     inner: Vec<T>,
@@ -190,6 +208,17 @@ impl<T> Model for List<T> {
     ghost view = { λ l. l.inner.items };
 }
 
+impl<T: Clone> Clone for List<T> {
+    ghost use Rattle.std.specs.List.{AllZip};
+
+    ghost is_clone = { AllZip T.is_clone };
+
+    fn clone(&self) -> Result<Self, AllocError> {
+        let inner = self.inner.clone()?;
+        Ok(List { inner })
+    }
+}
+
 impl<T> List<T> {
     pub fn new(alloc: Global) -> Self
         ensures { result ≡ [] }
@@ -197,6 +226,14 @@ impl<T> List<T> {
         List {
             inner: Vec::new(alloc),
         }
+    }
+
+    /// No items, and room for so many.
+    pub fn with_capacity(alloc: Global, capacity: usize) -> Result<Self, NoMemory>
+        ensures { IfOk result (λ l. l ≡ []) }
+    {
+        let inner = Vec::with_capacity(alloc, capacity)?;
+        Ok(List { inner })
     }
 
     /// The same items, without a copy.
@@ -243,9 +280,7 @@ impl<T: Drop> List<T> {
         ensures ok { OnOk result (self.new ≡ self.old ++ item ∷ []) }
         ensures err { OnErr result (self.new ≡ self.old) }
     {
-        match self.inner.push(item) {
-            Ok(()) => Ok(()),
-            Err(_) => Err(NoMemory),
-        }
+        self.inner.push(item)?;
+        Ok(())
     }
 }

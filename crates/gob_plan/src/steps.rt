@@ -2,10 +2,11 @@
 
 ghost use Rattle.std.specs.Prelude.{◌≡◌, IfOk};
 
-use crate::lists::{Element, copy_each};
 use crate::{Kind, List, NoMemory, TestSpec, Text, Value};
+use std::alloc::{AllocError, AllocFailed};
+use thiserror::Error;
 
-#[derive(Drop)]
+#[derive(Clone, Drop)]
 pub enum StepSpec {
     Keep {
         columns: List<Text>,
@@ -49,62 +50,20 @@ impl StepSpec {
     pub fn copy(&self) -> Result<Self, NoMemory>
         ensures { IfOk result (λ c. c ≡ self.now) }
     {
-        Ok(match self {
-            StepSpec::Keep { columns } => StepSpec::Keep {
-                columns: copy_each(columns)?,
-            },
-            StepSpec::Drop { columns } => StepSpec::Drop {
-                columns: copy_each(columns)?,
-            },
-            StepSpec::Rename { from, to } => StepSpec::Rename {
-                from: from.copy()?,
-                to: to.copy()?,
-            },
-            StepSpec::Cast { column, kind } => StepSpec::Cast {
-                column: column.copy()?,
-                kind: *kind,
-            },
-            StepSpec::Set {
-                column,
-                kind,
-                value,
-            } => StepSpec::Set {
-                column: column.copy()?,
-                kind: *kind,
-                value: value.copy()?,
-            },
-            StepSpec::Copy { from, to } => StepSpec::Copy {
-                from: from.copy()?,
-                to: to.copy()?,
-            },
-            StepSpec::Explode { column, separator } => StepSpec::Explode {
-                column: column.copy()?,
-                separator: separator.copy()?,
-            },
-            StepSpec::Where { test } => StepSpec::Where { test: test.copy()? },
-            StepSpec::Upper { column } => StepSpec::Upper {
-                column: column.copy()?,
-            },
-            StepSpec::Lower { column } => StepSpec::Lower {
-                column: column.copy()?,
-            },
-        })
-    }
-}
-
-impl Element for StepSpec {
-    fn copied(&self) -> Result<Self, NoMemory> {
-        self.copy()
+        Ok(self.clone()?)
     }
 }
 
 /// Why a step, a test or a format doesn't go with its columns.
-#[derive(Drop)]
+#[derive(Clone, Debug, Drop, Error)]
 pub enum Refusal {
     /// The column isn't there.
+    #[error("there is no column {column}")]
     NoColumn { column: Text },
     /// The column is there and has another kind.
+    #[error("the column {column} has another kind")]
     BadKind { column: Text },
+    #[error("a value is bad")]
     BadValue,
 }
 
@@ -112,31 +71,53 @@ impl Refusal {
     pub fn copy(&self) -> Result<Self, NoMemory>
         ensures { IfOk result (λ c. c ≡ self.now) }
     {
-        Ok(match self {
-            Refusal::NoColumn { column } => Refusal::NoColumn {
-                column: column.copy()?,
-            },
-            Refusal::BadKind { column } => Refusal::BadKind {
-                column: column.copy()?,
-            },
-            Refusal::BadValue => Refusal::BadValue,
-        })
+        Ok(self.clone()?)
     }
 }
 
-#[derive(Drop)]
+/// Why a step can't be set up on its columns.
+#[derive(Clone, Debug, Drop, Error)]
 pub enum StepFault {
+    #[error("the step is refused: {0}")]
     Refused(Refusal),
+    #[error("no memory is left")]
     Memory,
+}
+
+impl From<NoMemory> for StepFault {
+    ghost use Rattle.gob_plan.specs.declared.steps.StepFault.TheVariants.{Memory};
+
+    ghost from_gives = { λ _ fault. fault ≡ Memory };
+
+    fn from(_: NoMemory) -> Self {
+        StepFault::Memory
+    }
+}
+
+impl From<AllocError> for StepFault {
+    ghost use Rattle.gob_plan.specs.declared.steps.StepFault.TheVariants.{Memory};
+
+    ghost from_gives = { λ _ fault. fault ≡ Memory };
+
+    fn from(_: AllocError) -> Self {
+        StepFault::Memory
+    }
+}
+
+impl<T: Drop> From<AllocFailed<T>> for StepFault {
+    ghost use Rattle.gob_plan.specs.declared.steps.StepFault.TheVariants.{Memory};
+
+    ghost from_gives = { λ _ fault. fault ≡ Memory };
+
+    fn from(_: AllocFailed<T>) -> Self {
+        StepFault::Memory
+    }
 }
 
 impl StepFault {
     pub fn copy(&self) -> Result<Self, NoMemory>
         ensures { IfOk result (λ c. c ≡ self.now) }
     {
-        Ok(match self {
-            StepFault::Refused(refusal) => StepFault::Refused(refusal.copy()?),
-            StepFault::Memory => StepFault::Memory,
-        })
+        Ok(self.clone()?)
     }
 }

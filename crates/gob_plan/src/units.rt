@@ -2,7 +2,6 @@
 
 ghost use Rattle.std.specs.Prelude.{◌≡◌, IfOk};
 
-use crate::lists::{Element, copy_each, copy_plain};
 use crate::{List, NoMemory, Text};
 
 /// What a unit sent to one branch. Each count stops at the end of a `u64`.
@@ -15,7 +14,7 @@ pub struct BranchCounts {
 }
 
 /// What a unit made. Each count stops at the end of a `u64`.
-#[derive(Drop)]
+#[derive(Clone, Drop)]
 pub struct Counts {
     pub records: u64,
     pub bad: u64,
@@ -30,18 +29,12 @@ impl Counts {
     pub fn copy(&self) -> Result<Self, NoMemory>
         ensures { IfOk result (λ c. c ≡ self.now) }
     {
-        Ok(Counts {
-            records: self.records,
-            bad: self.bad,
-            rows: self.rows,
-            unrouted: self.unrouted,
-            branches: copy_plain(&self.branches)?,
-        })
+        Ok(self.clone()?)
     }
 }
 
 /// A range of a partition that is pulled as a whole.
-#[derive(Drop)]
+#[derive(Clone, Drop)]
 pub struct Unit {
     pub part: Text,
     pub lo: u64,
@@ -56,19 +49,7 @@ impl Unit {
     pub fn copy(&self) -> Result<Self, NoMemory>
         ensures { IfOk result (λ c. c ≡ self.now) }
     {
-        Ok(Unit {
-            part: self.part.copy()?,
-            lo: self.lo,
-            hi: self.hi,
-            fresh: self.fresh,
-            listed: self.listed,
-        })
-    }
-}
-
-impl Element for Unit {
-    fn copied(&self) -> Result<Self, NoMemory> {
-        self.copy()
+        Ok(self.clone()?)
     }
 }
 
@@ -90,7 +71,7 @@ pub enum Cause {
 }
 
 /// Where a file was staged, and where it is to be published.
-#[derive(Drop)]
+#[derive(Clone, Drop)]
 pub struct StagedFile {
     pub from: Text,
     pub to: Text,
@@ -100,20 +81,11 @@ impl StagedFile {
     pub fn copy(&self) -> Result<Self, NoMemory>
         ensures { IfOk result (λ c. c ≡ self.now) }
     {
-        Ok(StagedFile {
-            from: self.from.copy()?,
-            to: self.to.copy()?,
-        })
+        Ok(self.clone()?)
     }
 }
 
-impl Element for StagedFile {
-    fn copied(&self) -> Result<Self, NoMemory> {
-        self.copy()
-    }
-}
-
-#[derive(Drop)]
+#[derive(Clone, Drop)]
 pub enum UnitResult {
     Good {
         counts: Counts,
@@ -130,17 +102,6 @@ impl UnitResult {
     pub fn copy(&self) -> Result<Self, NoMemory>
         ensures { IfOk result (λ c. c ≡ self.now) }
     {
-        Ok(match self {
-            UnitResult::Good {
-                counts,
-                warnings,
-                staged,
-            } => UnitResult::Good {
-                counts: counts.copy()?,
-                warnings: copy_plain(warnings)?,
-                staged: copy_each(staged)?,
-            },
-            UnitResult::Failed { cause } => UnitResult::Failed { cause: *cause },
-        })
+        Ok(self.clone()?)
     }
 }

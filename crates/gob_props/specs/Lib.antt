@@ -1,2 +1,3 @@
 pub mod Properties
 pub mod Steps
+pub mod Laws

@@ -1,6 +1,7 @@
 -- What a properties text says: first its natural lines, then its logical lines, then each one's key and value, and then
 -- the escapes in these. A text is a list of characters.
-use Rattle.std.specs.Prelude.{ℕ, zero, suc, ◌+◌, ◌-◌, ◌*◌, ◌%◌, Bool, true, false, cond, ◌&&◌, ◌||◌, not, nat_eq, nat_le, List, [], ◌∷◌, ◌++◌, length, take, drop, fold, encode_utf8_all}
+use Rattle.std.specs.Prelude.{ℕ, zero, suc, ◌+◌, ◌-◌, ◌*◌, ◌%◌, Bool, true, false, cond, ◌&&◌, ◌||◌, not, nat_eq}
+use Rattle.std.specs.Prelude.{nat_le, List, [], ◌∷◌, ◌++◌, length, take, drop, fold, encode_utf8_all}
 use Rattle.std.specs.declared.option.Option.{Option}
 use Rattle.std.specs.declared.option.Option.TheVariants.{None, Some}
 use Rattle.std.specs.declared.result.Result.{Result}
@@ -19,20 +20,17 @@ use Rattle.gob_props.specs.declared.fault.PropsFault.TheVariants.{NotUtf8, BadEs
 abbrev pub is_line_end : ℕ → Bool
 is_line_end c = nat_eq c 10 || nat_eq c 13
 
--- the natural lines of a text whose first line has begun with these characters; a carriage return and a line feed after it
+-- the natural lines of a text whose first line has begun with these characters; a carriage return and a line feed
+-- after it
 -- are one end
 unfoldable pub natural_from : List ℕ → List ℕ → List (List ℕ)
 natural_from begun [] = begun ∷ []
 natural_from begun (c ∷ []) = cond (is_line_end c) (begun ∷ [] ∷ []) ((begun ++ c ∷ []) ∷ [])
-natural_from begun (c ∷ d ∷ cs) = cond (nat_eq c 13 && nat_eq d 10) (begun ∷ natural_from [] cs) (cond (is_line_end c) (begun ∷ natural_from [] (d ∷ cs)) (natural_from (begun ++ c ∷ []) (d ∷ cs)))
+natural_from begun (c ∷ d ∷ cs) = cond (nat_eq c 13 && nat_eq d 10) (begun ∷ natural_from [] cs)
+    (cond (is_line_end c) (begun ∷ natural_from [] (d ∷ cs)) (natural_from (begun ++ c ∷ []) (d ∷ cs)))
 
 abbrev pub natural_lines : List ℕ → List (List ℕ)
 natural_lines text = natural_from [] text
-
--- the natural lines of what is left of a text, if anything is
-abbrev pub lines_left : Option (List ℕ) → List (List ℕ)
-lines_left None = []
-lines_left (Some text) = natural_lines text
 
 -- ---- logical lines
 
@@ -61,7 +59,8 @@ is_passed_over line = is_comment (trimmed line)
 unfoldable pub goes_on : List ℕ → Bool
 goes_on line = nat_eq (suffix_len is_backslash line % 2) 1
 
--- what a natural line adds to its logical line: all but white space in front and the backslash that makes the next one go on
+-- what a natural line adds to its logical line: all but white space in front and the backslash that makes the next one
+-- go on
 abbrev pub part_of : List ℕ → List ℕ
 part_of line = cond (goes_on line) (take (length (trimmed line) - 1) (trimmed line)) (trimmed line)
 
@@ -74,13 +73,18 @@ pub record Logical : Type 0 where
 abbrev pub with_line : Logical → List ℕ → Logical
 with_line begun line = record { number = begun.number; text = begun.text ++ part_of line }
 
--- the logical lines of natural lines, the first of which has this number, and goes on with the logical line that has begun,
+-- the logical lines of natural lines, the first of which has this number, and goes on with the logical line that has
+-- begun,
 -- if one has
 unfoldable pub logical_from : Option Logical → ℕ → List (List ℕ) → List Logical
 logical_from None n [] = []
-logical_from None n (line ∷ lines) = cond (is_passed_over line) (logical_from None (n + 1) lines) (cond (goes_on line) (logical_from (Some (with_line (record { number = n; text = [] }) line)) (n + 1) lines) (with_line (record { number = n; text = [] }) line ∷ logical_from None (n + 1) lines))
+logical_from None n (line ∷ lines) = cond (is_passed_over line) (logical_from None (n + 1) lines)
+    (cond (goes_on line) (logical_from (Some (with_line (record { number = n; text = [] }) line)) (n + 1) lines)
+    (with_line (record { number = n; text = [] }) line ∷ logical_from None (n + 1) lines))
 logical_from (Some begun) n [] = begun ∷ []
-logical_from (Some begun) n (line ∷ lines) = cond (goes_on line) (logical_from (Some (with_line begun line)) (n + 1) lines) (with_line begun line ∷ logical_from None (n + 1) lines)
+logical_from (Some begun) n (line ∷ lines) =
+    cond (goes_on line) (logical_from (Some (with_line begun line)) (n + 1) lines)
+    (with_line begun line ∷ logical_from None (n + 1) lines)
 
 abbrev pub logical_lines : List ℕ → List Logical
 logical_lines text = logical_from None 1 (natural_lines text)
@@ -125,7 +129,8 @@ meaning_of c = cond (nat_eq c 116) 9 (cond (nat_eq c 110) 10 (cond (nat_eq c 114
 
 -- the UTF-16 code unit of four hexadecimal digits at the front
 unfoldable pub code_unit : List ℕ → Option ℕ
-code_unit cs = cond (nat_eq (length (take 4 cs)) 4 && list_all (λ c. is_digit c 16) (take 4 cs)) (Some (digits_value 16 (take 4 cs))) None
+code_unit cs = cond (nat_eq (length (take 4 cs)) 4 && list_all (λ c. is_digit c 16) (take 4 cs))
+    (Some (digits_value 16 (take 4 cs))) None
 
 -- the code unit that is escaped at the front: a backslash, `u` and four digits
 abbrev pub escaped_unit : List ℕ → Option ℕ
@@ -143,17 +148,20 @@ is_low unit = nat_le 0xDC00 unit && nat_le unit 0xDFFF
 -- the character of a high surrogate, where an escaped low one follows at once
 abbrev pub paired : ℕ → List ℕ → Option ℕ → Option Character
 paired high after None = None
-paired high after (Some low) = cond (is_low low) (Some (record { value = 0x10000 + (high - 0xD800) * 0x400 + (low - 0xDC00); after = drop 6 after })) None
+paired high after (Some low) = cond (is_low low)
+    (Some (record { value = 0x10000 + (high - 0xD800) * 0x400 + (low - 0xDC00); after = drop 6 after })) None
 
 -- the character of a code unit with this text after it; a surrogate alone is none
 abbrev pub coded : List ℕ → Option ℕ → Option Character
 coded after None = None
-coded after (Some unit) = cond (is_high unit) (paired unit after (escaped_unit after)) (cond (is_low unit) None (Some (record { value = unit; after = after })))
+coded after (Some unit) = cond (is_high unit) (paired unit after (escaped_unit after))
+    (cond (is_low unit) None (Some (record { value = unit; after = after })))
 
 -- the character of an escape, by what follows its backslash; a logical line never ends within one
 abbrev pub escape : List ℕ → Option Character
 escape [] = None
-escape (c ∷ cs) = cond (nat_eq c 117) (coded (drop 4 cs) (code_unit cs)) (Some (record { value = meaning_of c; after = cs }))
+escape (c ∷ cs) = cond (nat_eq c 117) (coded (drop 4 cs) (code_unit cs))
+    (Some (record { value = meaning_of c; after = cs }))
 
 -- the first character of a text
 unfoldable pub first_character : ℕ → List ℕ → Option Character
@@ -163,7 +171,8 @@ first_character c cs = cond (is_backslash c) (escape cs) (Some (record { value =
 unfoldable pub read_characters : ℕ → List ℕ → Option (List ℕ)
 read_characters n [] = Some []
 read_characters zero (c ∷ cs) = None
-read_characters (suc n) (c ∷ cs) = option_and_then (λ (x : Character). option_map (λ later. x.value ∷ later) (read_characters n x.after)) (first_character c cs)
+read_characters (suc n) (c ∷ cs) = option_and_then
+    (λ (x : Character). option_map (λ later. x.value ∷ later) (read_characters n x.after)) (first_character c cs)
 
 -- the text without escapes
 abbrev pub unescaped : List ℕ → Option (List ℕ)
@@ -193,7 +202,8 @@ put_first number (Some e) (Err fault) = Err fault
 -- the entries of logical lines in their order; an empty line has none
 unfoldable pub all_entries : List Logical → Result (List Entry) PropsFault
 all_entries [] = Ok []
-all_entries (l ∷ ls) = cond (nat_eq (length l.text) 0) (all_entries ls) (put_first l.number (entry_of l.text) (all_entries ls))
+all_entries (l ∷ ls) = cond (nat_eq (length l.text) 0) (all_entries ls)
+    (put_first l.number (entry_of l.text) (all_entries ls))
 
 -- the entries with one more: a key that is there keeps its place and takes the value, another goes last
 abbrev pub with_entry : List Entry → Entry → List Entry

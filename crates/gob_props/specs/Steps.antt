@@ -9,7 +9,8 @@ use Rattle.std.specs.declared.result.Result.{Result}
 use Rattle.std.specs.declared.result.Result.TheVariants.{Ok, Err}
 use Rattle.gob_props.specs.declared.fault.PropsFault.{PropsFault}
 use Rattle.gob_props.specs.declared.fault.PropsFault.TheVariants.{BadEscape}
-use Rattle.gob_props.specs.Properties.{Logical, logical_from, Character, Entry, entry_of, with_entry}
+use Rattle.std.specs.Str.{chars}
+use Rattle.gob_props.specs.Properties.{Logical, natural_lines, logical_from, Character, Entry, entry_of, with_entry}
 
 -- what follows the line end in front
 abbrev pub after_end : List ℕ → List ℕ
@@ -17,10 +18,15 @@ after_end [] = []
 after_end (c ∷ []) = []
 after_end (c ∷ d ∷ cs) = cond (nat_eq c 13 && nat_eq d 10) cs (d ∷ cs)
 
--- a bound on the natural lines that are left
-abbrev pub most_lines : Option (List ℕ) → ℕ
+-- the natural lines of what is left of a text, if anything is
+abbrev pub lines_left : Option (Bor (List ℕ)) → List (List ℕ)
+lines_left None = []
+lines_left (Some text) = natural_lines (chars text.now)
+
+-- a bound on their number
+abbrev pub most_lines : Option (Bor (List ℕ)) → ℕ
 most_lines None = 0
-most_lines (Some text) = length text + 1
+most_lines (Some text) = length text.now + 1
 
 -- the logical lines from a line on that has begun, and goes on or not
 abbrev pub later_lines : Bool → Logical → ℕ → List (List ℕ) → List Logical

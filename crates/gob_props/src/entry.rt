@@ -1,11 +1,12 @@
 //! The key and the value of a logical line.
-ghost use Rattle.std.specs.Prelude.{◌≡◌, ◌+◌, ◌<◌, ◌≤◌, ◌^◌, ℕ, true, false, length, drop, IfSome, IfOk, encode_utf8_all};
+ghost use Rattle.std.specs.Prelude.{◌≡◌, ◌+◌, ◌<◌, ◌≤◌, ◌^◌, ℕ, true, false, length, drop};
+ghost use Rattle.std.specs.Prelude.{IfSome, IfOk, encode_utf8_all};
 ghost use Rattle.std.specs.Option.{option_map};
 ghost use Rattle.std.specs.String.{string_bytes};
 ghost use Rattle.gob_props.specs.Properties as spec;
 ghost use Rattle.gob_props.specs.Steps.{character_of, entry_from};
 
-use crate::lines::{is_blank, trimmed};
+use crate::lines::is_blank;
 use std::alloc::{AllocError, Global};
 
 fn is_mark(c: char) -> bool
@@ -32,6 +33,19 @@ fn key_length(text: &[char]) -> usize
         escaped = !escaped && *c == '\\';
     }
     text.len()
+}
+
+fn trimmed(text: &[char]) -> &[char]
+    ensures { result.now ≡ spec.trimmed text.now }
+{
+    let mut left = text;
+    while let [first, rest @ ..] = left {
+        if !is_blank(*first) {
+            return left;
+        }
+        left = rest;
+    }
+    left
 }
 
 fn without_mark(text: &[char]) -> &[char]

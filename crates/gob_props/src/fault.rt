@@ -1,10 +1,11 @@
 //! Why a text has no properties.
 ghost use Rattle.std.specs.Prelude.{◌≡◌};
 
+use gob_plan::NoMemory;
 use std::alloc::AllocError;
 use thiserror::Error;
 
-#[derive(Debug, Drop, Error)]
+#[derive(Clone, Copy, Debug, PartialEq, Eq, Error)]
 pub enum PropsFault {
     #[error("the file is not UTF-8")]
     NotUtf8,
@@ -13,6 +14,16 @@ pub enum PropsFault {
     BadEscape { line: u64 },
     #[error("out of memory")]
     Memory,
+}
+
+impl From<NoMemory> for PropsFault {
+    ghost use Rattle.gob_props.specs.declared.fault.PropsFault.TheVariants.{Memory};
+
+    ghost from_gives = { λ _ fault. fault ≡ Memory };
+
+    fn from(_error: NoMemory) -> PropsFault {
+        PropsFault::Memory
+    }
 }
 
 impl From<AllocError> for PropsFault {

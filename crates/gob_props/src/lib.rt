@@ -3,12 +3,12 @@
 
 mod entry;
 mod fault;
+mod laws;
 mod lines;
 mod props;
 mod read;
-#[cfg(test)]
-mod tests;
 
 pub use fault::PropsFault;
+pub use laws::{entries_read_back, keys_keep_their_places, natural_lines_are_the_text};
 pub use props::Props;
 pub use read::read_props;

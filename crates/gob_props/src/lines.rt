@@ -1,16 +1,13 @@
 //! Natural lines, and the logical lines that they make.
-ghost use Rattle.std.specs.Prelude.{◌≡◌, ◌+◌, ◌-◌, ◌<◌, ◌≤◌, ◌++◌, ◌∷◌, ℕ, List, [], length, take, IfOk};
-ghost use Rattle.std.specs.Option.{option_copied};
+ghost use Rattle.std.specs.Prelude.{◌≡◌, ◌+◌, ◌<◌, ◌≤◌, ◌++◌, ◌∷◌, ℕ, List, [], length, IfOk};
+ghost use Rattle.std.specs.Str.{chars};
 ghost use Rattle.gob_props.specs.Properties as spec;
-ghost use Rattle.gob_props.specs.Steps.{after_end, later_lines, most_lines};
+ghost use Rattle.gob_props.specs.Steps.{after_end, later_lines, lines_left, most_lines};
 
+use gob_plan::split_first;
 use std::alloc::{AllocError, Global};
 
-fn is_line_end(c: char) -> bool
-    ensures { result ≡ spec.is_line_end c }
-{
-    c == '\n' || c == '\r'
-}
+const LINE_ENDS: [char; 2] = ['\n', '\r'];
 
 pub(crate) fn is_blank(c: char) -> bool
     ensures { result ≡ spec.is_blank c }
@@ -18,13 +15,13 @@ pub(crate) fn is_blank(c: char) -> bool
     c == ' ' || c == '\t' || c == '\u{c}'
 }
 
-/// The text without the white space in front.
-pub(crate) fn trimmed(text: &[char]) -> &[char]
-    ensures { result.now ≡ spec.trimmed text.now }
+// The text without the white space in front.
+fn trimmed(text: &str) -> &str
+    ensures { chars result.now ≡ spec.trimmed (chars text.now) }
 {
     let mut left = text;
-    while let [first, rest @ ..] = left {
-        if !is_blank(*first) {
+    while let Some((first, rest)) = split_first(left) {
+        if !is_blank(first) {
             return left;
         }
         left = rest;
@@ -33,69 +30,58 @@ pub(crate) fn trimmed(text: &[char]) -> &[char]
 }
 
 // What follows the line end in front.
-fn after_end(text: &[char]) -> &[char]
-    ensures { result.now ≡ after_end text.now }
+fn after_end(text: &str) -> &str
+    ensures rest { chars result.now ≡ after_end (chars text.now) }
+    ensures shorter { 0 < length text.now → length result.now < length text.now }
 {
-    match text {
-        ['\r', '\n', after @ ..] => after,
-        [_, after @ ..] => after,
-        [] => text,
+    let Some((first, rest)) = split_first(text) else {
+        return text;
+    };
+    match split_first(rest) {
+        Some((second, after)) if first == '\r' && second == '\n' => after,
+        _ => rest,
     }
 }
 
 /// The first natural line, and what follows its end where it has one.
-pub(crate) fn split_natural(text: &[char]) -> (&[char], Option<&[char]>)
-    ensures lines { spec.natural_lines text.now
-        ≡ result.0.now ∷ spec.lines_left (option_copied result.1) }
-    ensures fewer { most_lines (option_copied result.1) ≤ length text.now }
+pub(crate) fn split_natural(text: &str) -> (&str, Option<&str>)
+    ensures lines { spec.natural_lines (chars text.now) ≡ chars result.0.now ∷ lines_left result.1 }
+    ensures fewer { most_lines result.1 ≤ length text.now }
 {
-    for (i, c) in text.iter().enumerate() {
-        if is_line_end(*c) {
-            let (line, rest) = text.split_at(i);
-            return (line, Some(after_end(rest)));
+    match text.find(LINE_ENDS) {
+        Some(end) => {
+            let (line, rest) = text.split_at(end);
+            (line, Some(after_end(rest)))
         }
+        None => (text, None),
     }
-    (text, None)
 }
 
 /// Whether the natural line is blank or a comment, and so begins no logical line.
-pub(crate) fn is_passed_over(line: &[char]) -> bool
-    ensures { result ≡ spec.is_passed_over line.now }
+pub(crate) fn is_passed_over(line: &str) -> bool
+    ensures { result ≡ spec.is_passed_over (chars line.now) }
 {
-    match trimmed(line) {
-        [first, ..] => *first == '#' || *first == '!',
-        [] => true,
+    match split_first(trimmed(line)) {
+        Some((first, _)) => first == '#' || first == '!',
+        None => true,
     }
 }
 
-// Whether the line ends with an odd number of backslashes.
-fn goes_on(line: &[char]) -> bool
-    ensures { result ≡ spec.goes_on line.now }
+// Adds what the natural line adds to its logical line, and answers whether the next one goes on with it. So it does
+// after an odd number of backslashes, of which the last is taken off again.
+fn push_part(text: &mut Vec<char>, line: &str) -> Result<bool, AllocError>
+    ensures more { IfOk result (λ more. more ≡ spec.goes_on (chars line.now)) }
+    ensures text { IfOk result (λ _. text.new.items ≡ text.old.items ++ spec.part_of (chars line.now)) }
 {
-    let mut before = line.len();
-    while before > 0 && line[before - 1] == '\\' {
-        before -= 1;
+    let mut odd = false;
+    for c in trimmed(line).chars() {
+        text.push(c)?;
+        odd = c == '\\' && !odd;
     }
-    (line.len() - before) % 2 == 1
-}
-
-fn without_last(text: &[char]) -> &[char]
-    ensures { result.now ≡ take (length text.now - 1) text.now }
-{
-    match text {
-        [front @ .., _] => front,
-        [] => text,
+    if odd {
+        let _ = text.pop();
     }
-}
-
-fn part_of(line: &[char]) -> &[char]
-    ensures { result.now ≡ spec.part_of line.now }
-{
-    if goes_on(line) {
-        without_last(trimmed(line))
-    } else {
-        trimmed(line)
-    }
+    Ok(odd)
 }
 
 /// A logical line, with how many natural lines it has and what follows them.
@@ -103,29 +89,26 @@ fn part_of(line: &[char]) -> &[char]
 pub(crate) struct Joined<'a> {
     pub(crate) text: Vec<char>,
     pub(crate) count: u64,
-    pub(crate) after: Option<&'a [char]>,
+    pub(crate) after: Option<&'a str>,
 }
 
 /// The logical line that the natural line begins, with those of the lines after it that go on with it.
 pub(crate) fn join_lines<'a>(
     alloc: Global,
-    line: &[char],
-    after: Option<&'a [char]>,
+    line: &str,
+    after: Option<&'a str>,
 ) -> Result<Joined<'a>, AllocError>
     ensures joined { IfOk result (λ j. (n : ℕ) →
-        later_lines (spec.goes_on line.now)
-        (spec.with_line (record { number = n; text = [] }) line.now)
-        (n + 1) (spec.lines_left (option_copied after.entry))
+        later_lines (spec.goes_on (chars line.now))
+        (spec.with_line (record { number = n; text = [] }) (chars line.now))
+        (n + 1) (lines_left after.entry)
         ≡ record { number = n; text = j.text.items }
-        ∷ spec.logical_from None (n + j.count) (spec.lines_left (option_copied j.after))) }
+        ∷ spec.logical_from None (n + j.count) (lines_left j.after)) }
     ensures some { IfOk result (λ j. 0 < j.count) }
-    ensures fewer { IfOk result (λ j.
-        j.count + most_lines (option_copied j.after)
-        ≤ 1 + most_lines (option_copied after.entry)) }
+    ensures fewer { IfOk result (λ j. j.count + most_lines j.after ≤ 1 + most_lines after.entry) }
 {
     let mut text = Vec::new(alloc);
-    text.extend_from_slice(part_of(line))?;
-    let mut more = goes_on(line);
+    let mut more = push_part(&mut text, line)?;
     let mut count = 1;
     let mut left = after;
     while more {
@@ -137,8 +120,7 @@ pub(crate) fn join_lines<'a>(
             });
         };
         let (next, others) = split_natural(rest);
-        text.extend_from_slice(part_of(next))?;
-        more = goes_on(next);
+        more = push_part(&mut text, next)?;
         count += 1;
         left = others;
     }

@@ -12,12 +12,6 @@ use crate::props::Props;
 use std::alloc::{AllocError, Global};
 use std::str;
 
-fn characters_of(alloc: Global, text: &str) -> Result<Vec<char>, AllocError>
-    ensures { IfOk result (λ v. v.items ≡ chars text.now) }
-{
-    text.chars().collect(alloc)
-}
-
 // Puts the entry of a logical line that begins at this natural line.
 fn put_line(alloc: Global, props: &mut Props, number: u64, text: &[char]) -> Result<(), PropsFault>
     ensures { MatchResult result
@@ -35,8 +29,8 @@ fn put_line(alloc: Global, props: &mut Props, number: u64, text: &[char]) -> Res
     Ok(())
 }
 
-fn read_text(alloc: Global, text: &[char]) -> Result<Props, PropsFault>
-    ensures { (result ≡ Err PropsFault.Memory) ⊎ (result ≡ spec.read_text text.now) }
+fn read_text(alloc: Global, text: &str) -> Result<Props, PropsFault>
+    ensures { (result ≡ Err PropsFault.Memory) ⊎ (result ≡ spec.read_text (chars text.now)) }
 {
     let mut props = Props::new(alloc);
     let mut number = 1;
@@ -63,6 +57,5 @@ pub fn read_props(alloc: Global, bytes: &[u8]) -> Result<Props, PropsFault>
     let Ok(text) = str::from_utf8(bytes) else {
         return Err(PropsFault::NotUtf8);
     };
-    let characters = characters_of(alloc, text)?;
-    read_text(alloc, &characters)
+    read_text(alloc, text)
 }

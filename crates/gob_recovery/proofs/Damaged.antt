@@ -4,7 +4,7 @@ use Rattle.std.specs.List.{list_all}
 use Rattle.std.proofs.lemmas.Bool.{and_parts}
 use Rattle.gob_bytes.specs.Paths.{sequence_name}
 use Rattle.gob_device.specs.Disk.{Files, File, contents_of}
-use Rattle.gob_recovery.specs.Sequence.{Step, move, Reads}
+use Rattle.gob_recovery.specs.Sequence.{CommitStep, move, Reads}
 use Rattle.gob_recovery.specs.Settle.{can_do, Open, Settles, IsDamaged, sequence, lost}
 use Rattle.gob_recovery.specs.Laws.{DamageIsOne}
 use Rattle.gob_recovery.proofs.Spelled.{spelling}
@@ -13,17 +13,17 @@ same_file : (job : List ℕ) (m : Files) (f g : File) → m (sequence_name job) 
 same_file job m f g a b = let both : Some f ≡ Some g = sym a ∙ b in cc
 
 -- one sequence is open
-one_open : (job : List ℕ) (m : Files) (s t : List Step) → Open job m s → Open job m t → s ≡ t
+one_open : (job : List ℕ) (m : Files) (s t : List CommitStep) → Open job m s → Open job m t → s ≡ t
 one_open job m s t a b =
     let file = same_file job m a.file b.file a.here b.here in
     spelling job s t a.reads.fits b.reads.fits (sym a.reads.spelled ∙ (ap contents_of file ∙ b.reads.spelled))
 
-stops_at : (m : Files) (before after : List Step) (s : Step) → can_do m s ≡ false → list_all (can_do m) (before ++ s ∷ after) ≡ true → ⊥
+stops_at : (m : Files) (before after : List CommitStep) (s : CommitStep) → can_do m s ≡ false → list_all (can_do m) (before ++ s ∷ after) ≡ true → ⊥
 stops_at m [] after s cannot all = let yes : can_do m s ≡ true = (and_parts (can_do m s) (list_all (can_do m) after) all).0 in let bad : true ≡ false = sym yes ∙ cannot in cc
 stops_at m (b ∷ before) after s cannot all = stops_at m before after s cannot (and_parts (can_do m b) (list_all (can_do m) (before ++ s ∷ after)) all).1
 
 -- the first step that can't be done is one
-first_one : (m : Files) (before other : List Step) (s t : Step) (after rest : List Step) → before ++ s ∷ after ≡ other ++ t ∷ rest → list_all (can_do m) before ≡ true → list_all (can_do m) other ≡ true → can_do m s ≡ false → can_do m t ≡ false → s ≡ t
+first_one : (m : Files) (before other : List CommitStep) (s t : CommitStep) (after rest : List CommitStep) → before ++ s ∷ after ≡ other ++ t ∷ rest → list_all (can_do m) before ≡ true → list_all (can_do m) other ≡ true → can_do m s ≡ false → can_do m t ≡ false → s ≡ t
 first_one m [] [] s t after rest e a b x y = cc
 first_one m [] (o ∷ other) s t after rest e a b x y =
     let same : s ≡ o = cc in

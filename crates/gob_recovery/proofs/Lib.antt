@@ -3,3 +3,7 @@ pub mod Images
 pub mod Spelled
 pub mod Settled
 pub mod Damaged
+pub mod Opened
+pub mod Decided
+pub mod Commits
+pub mod Examples

@@ -6,18 +6,18 @@ use Rattle.std.proofs.lemmas.Bool.{true≢false}
 use Rattle.std.proofs.lemmas.Bool.Decides.{nat_tests}
 use Rattle.gob_bytes.specs.Words.{words, numbered}
 use Rattle.gob_device.specs.Disk.{contents_of}
-use Rattle.gob_recovery.specs.Sequence.{Step, move, remove, is_name_byte, is_file_name, step_fits, step_line, sequence_text}
-use Rattle.gob_recovery.specs.Settle.{finished, Settles}
+use Rattle.gob_recovery.specs.Sequence.{CommitStep, move, remove, is_name_byte, is_file_name, step_fits, step_line, sequence_text}
+use Rattle.gob_recovery.specs.Settle.{after_finish, Settles}
 use Rattle.gob_recovery.specs.Laws.{OneSpelling, SettlesToOne}
 
 -- none of the bytes is this one
-abbrev Free : ℕ → List ℕ → Type 0
+abbrev pub Free : ℕ → List ℕ → Type 0
 Free sep bytes = list_all (λ b. not (nat_eq b sep)) bytes ≡ true
 
 never : (c : ℕ) → not (nat_eq c c) ≡ true → ⊥
 never c e = grind (arith, nat_tests)
 
-parted : (sep : ℕ) (a c x y : List ℕ) → Free sep a → Free sep c → a ++ sep ∷ x ≡ c ++ sep ∷ y → (a ≡ c) × (x ≡ y)
+pub parted : (sep : ℕ) (a c x y : List ℕ) → Free sep a → Free sep c → a ++ sep ∷ x ≡ c ++ sep ∷ y → (a ≡ c) × (x ≡ y)
 parted sep [] [] x y fa fc e = (refl, cc)
 parted sep [] (c ∷ cs) x y fa fc e =
     let same : sep ≡ c = cc in
@@ -34,7 +34,7 @@ parted sep (a ∷ as') (c ∷ cs) x y fa fc e =
     let r = parted sep as' cs x y (and_parts _ _ fa).1 (and_parts _ _ fc).1 tail in
     (λ i. head i ∷ r.0 i, r.1)
 
-cancel : (xs a b : List ℕ) → xs ++ a ≡ xs ++ b → a ≡ b
+pub cancel : (xs a b : List ℕ) → xs ++ a ≡ xs ++ b → a ≡ b
 cancel [] a b e = e
 cancel (x ∷ xs) a b e = cancel xs a b (let tail : xs ++ a ≡ xs ++ b = cc in tail)
 
@@ -50,7 +50,7 @@ free_bytes sep (b ∷ bs) out all =
     let p = and_parts (is_name_byte b) (list_all is_name_byte bs) all in
     and_from _ _ (free_byte sep b out p.0) (free_bytes sep bs out p.1)
 
-free_name : (sep : ℕ) (name : List ℕ) → is_name_byte sep ≡ false → is_file_name name ≡ true → Free sep name
+pub free_name : (sep : ℕ) (name : List ℕ) → is_name_byte sep ≡ false → is_file_name name ≡ true → Free sep name
 free_name sep [] out named = refl
 free_name sep (b ∷ bs) out named = free_bytes sep (b ∷ bs) out named
 
@@ -60,36 +60,36 @@ move_text a b rest = ap (λ x. codes "move " ++ x) (append_assoc a (32 ∷ (b ++
 remove_text : (a rest : List ℕ) → step_line (remove a) ++ rest ≡ codes "remove " ++ (a ++ 10 ∷ rest)
 remove_text a rest = ap (λ x. codes "remove " ++ x) (append_assoc a (10 ∷ []) rest)
 
-abbrev last_line : ℕ → List ℕ
+abbrev pub last_line : ℕ → List ℕ
 last_line n = numbered (codes "end") (n ∷ [])
 
 -- the steps and the last line
-abbrev body : List Step → ℕ → List ℕ
+abbrev pub body : List CommitStep → ℕ → List ℕ
 body ss n = flat_map step_line ss ++ last_line n
 
-move_body : (a b : List ℕ) (ss : List Step) (n : ℕ) → body (move a b ∷ ss) n ≡ codes "move " ++ (a ++ 32 ∷ (b ++ 10 ∷ body ss n))
+pub move_body : (a b : List ℕ) (ss : List CommitStep) (n : ℕ) → body (move a b ∷ ss) n ≡ codes "move " ++ (a ++ 32 ∷ (b ++ 10 ∷ body ss n))
 move_body a b ss n = append_assoc (step_line (move a b)) (flat_map step_line ss) (last_line n) ∙ move_text a b (body ss n)
 
-remove_body : (a : List ℕ) (ss : List Step) (n : ℕ) → body (remove a ∷ ss) n ≡ codes "remove " ++ (a ++ 10 ∷ body ss n)
+pub remove_body : (a : List ℕ) (ss : List CommitStep) (n : ℕ) → body (remove a ∷ ss) n ≡ codes "remove " ++ (a ++ 10 ∷ body ss n)
 remove_body a ss n = append_assoc (step_line (remove a)) (flat_map step_line ss) (last_line n) ∙ remove_text a (body ss n)
 
-names_of_move : (job a b : List ℕ) → step_fits job (move a b) ≡ true → (is_file_name a ≡ true) × (is_file_name b ≡ true)
+pub names_of_move : (job a b : List ℕ) → step_fits job (move a b) ≡ true → (is_file_name a ≡ true) × (is_file_name b ≡ true)
 names_of_move job a b e = let p = and_parts _ (is_file_name b) e in ((and_parts _ (is_file_name a) p.0).1, p.1)
 
-name_of_remove : (job a : List ℕ) → step_fits job (remove a) ≡ true → is_file_name a ≡ true
+pub name_of_remove : (job a : List ℕ) → step_fits job (remove a) ≡ true → is_file_name a ≡ true
 name_of_remove job a e = (and_parts _ (is_file_name a) e).1
 
 -- first bytes that differ
-move_remove : (x y : List ℕ) → codes "move " ++ x ≡ codes "remove " ++ y → ⊥
+pub move_remove : (x y : List ℕ) → codes "move " ++ x ≡ codes "remove " ++ y → ⊥
 move_remove x y e = let head : ◌≡◌ {A = ℕ} 109 114 = cc in omega (arith, head)
 
-move_end : (x : List ℕ) (n : ℕ) → codes "move " ++ x ≡ last_line n → ⊥
+pub move_end : (x : List ℕ) (n : ℕ) → codes "move " ++ x ≡ last_line n → ⊥
 move_end x n e = let head : ◌≡◌ {A = ℕ} 109 101 = cc in omega (arith, head)
 
-remove_end : (x : List ℕ) (n : ℕ) → codes "remove " ++ x ≡ last_line n → ⊥
+pub remove_end : (x : List ℕ) (n : ℕ) → codes "remove " ++ x ≡ last_line n → ⊥
 remove_end x n e = let head : ◌≡◌ {A = ℕ} 114 101 = cc in omega (arith, head)
 
-same_steps : (job : List ℕ) (s t : List Step) (n k : ℕ) → list_all (step_fits job) s ≡ true → list_all (step_fits job) t ≡ true → body s n ≡ body t k → s ≡ t
+pub same_steps : (job : List ℕ) (s t : List CommitStep) (n k : ℕ) → list_all (step_fits job) s ≡ true → list_all (step_fits job) t ≡ true → body s n ≡ body t k → s ≡ t
 same_steps job [] [] n k fs ft e = refl
 same_steps job [] (move a b ∷ ts) n k fs ft e = absurd (move_end _ n (sym (move_body a b ts k) ∙ sym e))
 same_steps job [] (remove a ∷ ts) n k fs ft e = absurd (remove_end _ n (sym (remove_body a ts k) ∙ sym e))
@@ -115,10 +115,10 @@ same_steps job (remove a ∷ ss) (remove c ∷ ts) n k fs ft e =
     let rest = same_steps job ss ts n k fp.1 tp.1 first.1 in
     λ i. remove (first.0 i) ∷ rest i
 
-abbrev first_line : List ℕ
+abbrev pub first_line : List ℕ
 first_line = words (codes "gobblin-sequence") (codes "1" ∷ [])
 
-pub whole_text : (s : List Step) → sequence_text s ≡ first_line ++ body s (length s)
+pub whole_text : (s : List CommitStep) → sequence_text s ≡ first_line ++ body s (length s)
 unfolding sequence_text
 whole_text s = append_assoc first_line (flat_map step_line s) (last_line (length s))
 
@@ -135,4 +135,4 @@ to_one job m a b sa sb = cases sa sb
     cases (inr x) (inr y) =
         let file : x.1.file ≡ y.1.file = let both : Some x.1.file ≡ Some y.1.file = sym x.1.here ∙ y.1.here in cc in
         let text : sequence_text x.0 ≡ sequence_text y.0 = sym x.1.reads.spelled ∙ (ap contents_of file ∙ y.1.reads.spelled) in
-        x.3 ∙ (ap (λ ss. finished job ss m) (spelling job x.0 y.0 x.1.reads.fits y.1.reads.fits text) ∙ sym y.3)
+        x.3 ∙ (ap (λ ss. after_finish job ss m) (spelling job x.0 y.0 x.1.reads.fits y.1.reads.fits text) ∙ sym y.3)

@@ -1,15 +1,15 @@
 -- The laws of settling.
-use Rattle.std.specs.Prelude.{◌≡◌, ℕ, true, false, List, take}
-use Rattle.std.specs.declared.option.Option.TheVariants.{Some}
+use Rattle.std.specs.Prelude.{◌≡◌, ◌⊎◌, ℕ, true, false, List, take}
+use Rattle.std.specs.declared.option.Option.TheVariants.{None, Some}
 use Rattle.std.specs.List.{list_all}
 use Rattle.gob_bytes.specs.Paths.{begins_with, staging, sequence_name}
-use Rattle.gob_device.specs.Disk.{Files, File, clean}
-use Rattle.gob_recovery.specs.Sequence.{Step, WellFormed, sequence_text}
-use Rattle.gob_recovery.specs.Settle.{do_steps, can_do, Open, finished, Settles, IsSettled, IsDamaged, SettlesAs}
+use Rattle.gob_device.specs.Disk.{Files, File, clean, put}
+use Rattle.gob_recovery.specs.Sequence.{CommitStep, WellFormed, sequence_text}
+use Rattle.gob_recovery.specs.Settle.{do_steps, can_do, without_staging, Open, after_finish, Settles, IsSettled, IsDamaged, SettlesAs}
 
 -- different sequences have different texts
 abbrev pub OneSpelling : Type 0
-OneSpelling = (job : List ℕ) (s t : List Step) → WellFormed job s → WellFormed job t → sequence_text s ≡ sequence_text t → s ≡ t
+OneSpelling = (job : List ℕ) (s t : List CommitStep) → WellFormed job s → WellFormed job t → sequence_text s ≡ sequence_text t → s ≡ t
 
 -- a map settles to one map
 abbrev pub SettlesToOne : Type 0
@@ -17,8 +17,8 @@ SettlesToOne = (job : List ℕ) (m a b : Files) → Settles job m a → Settles 
 
 -- after any front of the steps settling is still defined, and gives the same
 abbrev pub SettlingCanBeRepeated : Type 0
-SettlingCanBeRepeated = (job : List ℕ) (m : Files) (steps : List Step) (k : ℕ) → Open job m steps → list_all (can_do m) steps ≡ true
-    → Settles job (do_steps (take k steps) m) (finished job steps m)
+SettlingCanBeRepeated = (job : List ℕ) (m : Files) (steps : List CommitStep) (k : ℕ) → Open job m steps → list_all (can_do m) steps ≡ true
+    → Settles job (do_steps (take k steps) m) (after_finish job steps m)
 
 -- an open sequence, where there is one, can't be lost in part
 abbrev pub NoTornSequence : List ℕ → Files → Type 0
@@ -44,3 +44,18 @@ pub record OneDamage (job : List ℕ) (m : Files) (name : List ℕ) : Type 0 whe
 
 abbrev pub DamageIsOne : Type 0
 DamageIsOne = (job : List ℕ) (m : Files) (name : List ℕ) → IsDamaged job m name → OneDamage job m name
+
+-- every map settles, or is damaged
+abbrev pub SettlesOrIsDamaged : Type 0
+SettlesOrIsDamaged = (job : List ℕ) (m : Files) → ((settled : Files) × Settles job m settled) ⊎ ((name : List ℕ) × IsDamaged job m name)
+
+-- once a sequence is open, the map settles as if its steps had been done
+abbrev pub OpenedSettles : Type 0
+OpenedSettles = (job : List ℕ) (steps : List CommitStep) (m : Files) → WellFormed job steps → m (sequence_name job) ≡ None
+    → list_all (can_do m) steps ≡ true
+    → Settles job (put m (sequence_name job) (Some (clean (sequence_text steps)))) (without_staging job (do_steps steps m))
+
+-- on the way each name has the file that it had, or the one that it will have
+abbrev pub StepsChangeOnce : Type 0
+StepsChangeOnce = (job : List ℕ) (steps : List CommitStep) (m : Files) (k : ℕ) (name : List ℕ) → WellFormed job steps
+    → (do_steps (take k steps) m name ≡ m name) ⊎ (do_steps (take k steps) m name ≡ do_steps steps m name)

@@ -1,3 +1,5 @@
 pub mod Sequence
 pub mod Settle
+pub mod Commits
 pub mod Laws
+pub mod Examples

@@ -1,7 +1,9 @@
 //! Commit sequences and what settling makes of a map of files: definitions and their laws. No function works here.
 #![tactic(auto)]
 
-ghost use Rattle.gob_recovery.specs.Laws.{DamageIsOne, ImagesSettleAlike, OneSpelling, SettlesToOne, SettlesToSettled, SettlingCanBeRepeated, StagingIsFree};
+ghost use Rattle.gob_recovery.specs.Examples.{BetweenMoves, WorkedCommit, WorkedDamage};
+ghost use Rattle.gob_recovery.specs.Laws.{DamageIsOne, ImagesSettleAlike, OneSpelling, OpenedSettles, SettlesOrIsDamaged};
+ghost use Rattle.gob_recovery.specs.Laws.{SettlesToOne, SettlesToSettled, SettlingCanBeRepeated, StagingIsFree, StepsChangeOnce};
 
 /// A sequence's text determines its steps.
 pub fn one_spelling_a_sequence()
@@ -36,4 +38,34 @@ pub fn staging_is_free()
 /// Where settling isn't defined there is exactly one name to blame.
 pub fn damage_is_one()
     ensures { DamageIsOne }
+{}
+
+/// Every map settles, or has a name to blame.
+pub fn a_map_settles_or_is_damaged()
+    ensures { SettlesOrIsDamaged }
+{}
+
+/// Once a sequence is open, the map settles as if its steps had been done.
+pub fn an_open_sequence_settles()
+    ensures { OpenedSettles }
+{}
+
+/// On the way each name has the file that it had, or the one that it will have.
+pub fn steps_change_once()
+    ensures { StepsChangeOnce }
+{}
+
+/// A commit of three steps, with its staging, settles to one of two maps after any of its calls.
+pub fn a_commit_is_stopped_anywhere()
+    ensures { WorkedCommit }
+{}
+
+/// A sequence between its two moves.
+pub fn a_commit_between_its_moves()
+    ensures { BetweenMoves }
+{}
+
+/// A sequence that was cut, and one of which a source is lost.
+pub fn two_damaged_maps()
+    ensures { WorkedDamage }
 {}

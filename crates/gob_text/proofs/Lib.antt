@@ -4,3 +4,4 @@ pub mod LineEnds
 pub mod Numerals
 pub mod Offsets
 pub mod Splits
+mod EscapedLength

@@ -1,11 +1,15 @@
 -- A text splits into a word and what follows it in one way.
-use Rattle.std.proofs.Common.{◌≡◌, ◌≢◌, ℕ, zero, suc, ◌+◌, ◌<◌, ◌≤◌, ◌^◌, true, false, not, List, [], ◌∷◌, ◌++◌, length, get_or, take, drop, Some, None, refl, sym, ap, ◌∙◌, subst, arith, length-append, add-one, nat_eq, IsUtf8, MatchOption, String, string_bytes, decimal, ◌/◌, ◌%◌, cond, Result, Ok, Err, IfOk, is_ok, Global, Vec}
+use Rattle.std.proofs.Common.{◌≡◌, ◌≢◌, ℕ, zero, suc, ◌+◌, ◌<◌, ◌≤◌, ◌^◌, true, false, not, List, [], ◌∷◌, ◌++◌, length}
+use Rattle.std.proofs.Common.{get_or, take, drop, Some, None, refl, sym, ap, ◌∙◌, subst, arith, length-append, add-one}
+use Rattle.std.proofs.Common.{nat_eq, IsUtf8, MatchOption, String, string_bytes, decimal, ◌/◌, ◌%◌, cond, Result, Ok}
+use Rattle.std.proofs.Common.{Err, IfOk, is_ok, Global, Vec}
 use Rattle.std.specs.String.{string_vec}
 use Rattle.std.specs.Result.{result_ok}
 use Rattle.std.proofs.lemmas.Str.{IsUtf8-string_bytes}
 use Rattle.std.specs.Str.{all_ascii_digits}
 use Rattle.std.specs.Str.Parse.{digits_value}
-use Rattle.std.proofs.lemmas.Bool.{and_parts, and_from, both_ways, not-true, true≢false, cond_both, eqb-true, eq-eqb, not_from_false, false_from_ne_true}
+use Rattle.std.proofs.lemmas.Bool.{and_parts, and_from, both_ways, not-true, true≢false, cond_both, eqb-true, eq-eqb}
+use Rattle.std.proofs.lemmas.Bool.{not_from_false, false_from_ne_true}
 use Rattle.memchr.specs.Find.{Nowhere, NoneBefore, Passes, is_byte, is_byte2}
 use Rattle.std.proofs.lemmas.Bool.Decides.{nat_tests}
 use Rattle.std.proofs.lemmas.List.Folds.{list_all-append}
@@ -24,7 +28,8 @@ break_not b h k = both_ways _ (not-true _ k) h
 
 -- ---- one split
 
-words_apart : (xs ys us vs : List ℕ) → HasNoBreak xs → HasNoBreak us → EndsWord ys → EndsWord vs → xs ++ ys ≡ us ++ vs → (xs ≡ us) × (ys ≡ vs)
+words_apart : (xs ys us vs : List ℕ) → HasNoBreak xs → HasNoBreak us → EndsWord ys → EndsWord vs → xs ++ ys ≡ us ++ vs →
+    (xs ≡ us) × (ys ≡ vs)
 words_apart [] ys [] vs h k ends ends' same = (refl, same)
 words_apart [] ys (u ∷ us) vs h k ends ends' same =
     let breaks : is_break u ≡ true = subst EndsWord same ends in
@@ -39,7 +44,8 @@ words_apart (x ∷ xs) ys (u ∷ us) vs h k ends ends' same =
     let others = parts.0 in
     (cc, parts.1)
 
-lines_apart : (xs ys us vs : List ℕ) → IsLine xs → IsLine us → (xs ++ 10 ∷ []) ++ ys ≡ (us ++ 10 ∷ []) ++ vs → (xs ≡ us) × (ys ≡ vs)
+lines_apart : (xs ys us vs : List ℕ) → IsLine xs → IsLine us → (xs ++ 10 ∷ []) ++ ys ≡ (us ++ 10 ∷ []) ++ vs →
+    (xs ≡ us) × (ys ≡ vs)
 lines_apart [] ys [] vs h k same = (refl, cc)
 lines_apart [] ys (u ∷ us) vs h k same =
     let feed : 10 ≡ u = cc in
@@ -56,11 +62,13 @@ lines_apart (x ∷ xs) ys (u ∷ us) vs h k same =
 
 -- ---- where a word or a line ends
 
-pub no_break-before : (text : List ℕ) (k : ℕ) → Nowhere (Passes (is_byte2 32 10) text) 0 k → k ≤ length text → HasNoBreak (take k text)
+pub no_break-before : (text : List ℕ) (k : ℕ) → Nowhere (Passes (is_byte2 32 10) text) 0 k → k ≤ length text →
+    HasNoBreak (take k text)
 no_break-before text zero none inside = refl
 no_break-before [] (suc k) none inside = absurd (omega arith)
 no_break-before (b ∷ text) (suc k) none inside =
-    and_from _ _ (not_from_false (is_break b) (false_from_ne_true _ (none 0 (omega arith) (omega arith)))) (no_break-before text k (λ j low high. none (suc j) (omega arith) (omega arith)) (omega arith))
+    and_from _ _ (not_from_false (is_break b) (false_from_ne_true _ (none 0 (omega arith) (omega arith))))
+    (no_break-before text k (λ j low high. none (suc j) (omega arith) (omega arith)) (omega arith))
 
 pub ends_at-break : (text : List ℕ) (k : ℕ) → Passes (is_byte2 32 10) text k → k < length text → EndsWord (drop k text)
 ends_at-break [] k here inside = absurd (omega arith)
@@ -71,25 +79,33 @@ line_before : (text : List ℕ) (k : ℕ) → Nowhere (Passes (is_byte 10) text)
 line_before text zero none inside = refl
 line_before [] (suc k) none inside = absurd (omega arith)
 line_before (b ∷ text) (suc k) none inside =
-    and_from _ _ (not_from_false (nat_eq b 10) (false_from_ne_true _ (none 0 (omega arith) (omega arith)))) (line_before text k (λ j low high. none (suc j) (omega arith) (omega arith)) (omega arith))
+    and_from _ _ (not_from_false (nat_eq b 10) (false_from_ne_true _ (none 0 (omega arith) (omega arith))))
+    (line_before text k (λ j low high. none (suc j) (omega arith) (omega arith)) (omega arith))
 
-cut_at : (text : List ℕ) (k : ℕ) → k < length text → get_or text k 0 ≡ 10 → text ≡ (take k text ++ 10 ∷ []) ++ drop (suc k) text
+cut_at : (text : List ℕ) (k : ℕ) → k < length text → get_or text k 0 ≡ 10 →
+    text ≡ (take k text ++ 10 ∷ []) ++ drop (suc k) text
 cut_at [] k inside here = absurd (omega arith)
 cut_at (b ∷ text) zero inside here = ap (λ c. c ∷ text) here
 cut_at (b ∷ text) (suc k) inside here = ap (λ x. b ∷ x) (cut_at text k (omega arith) here)
 
-pub line_split : (text : List ℕ) (k : ℕ) → NoneBefore (Passes (is_byte 10) text) 0 (length text) k → Passes (is_byte 10) text k → IsLine (take k text) × (text ≡ (take k text ++ 10 ∷ []) ++ drop (k + 1) text)
-line_split text k place here =
-    (line_before text k place.before (omega (arith, place.high)), rw add-one (cut_at text k place.high (eqb-true _ 10 here)))
+pub line_split : (text : List ℕ) (k : ℕ) → NoneBefore (Passes (is_byte 10) text) 0 (length text) k →
+    Passes (is_byte 10) text k → IsLine (take k text) × (text ≡ (take k text ++ 10 ∷ []) ++ drop (k + 1) text)
+line_split text k place here = (
+  line_before text k place.before (omega (arith, place.high)),
+  rw add-one (cut_at text k place.high (eqb-true _ 10 here)),
+)
 
 feed_at : (line after : List ℕ) → get_or ((line ++ 10 ∷ []) ++ after) (length line) 0 ≡ 10
 feed_at [] after = refl
 feed_at (b ∷ line) after = feed_at line after
 
-pub no_line : (text line after : List ℕ) → Nowhere (Passes (is_byte 10) text) 0 (length text) → text ≢ (line ++ 10 ∷ []) ++ after
+pub no_line : (text line after : List ℕ) → Nowhere (Passes (is_byte 10) text) 0 (length text) →
+    text ≢ (line ++ 10 ∷ []) ++ after
 no_line text line after none same =
-    let size : length text ≡ length line + 1 + length after = ap length same ∙ length-append (line ++ 10 ∷ []) after ∙ ap (λ n. n + length after) (length-append line (10 ∷ [])) in
-    none (length line) (omega arith) (omega arith) (eq-eqb _ 10 (ap (λ t. get_or t (length line) 0) same ∙ feed_at line after))
+    let size : length text ≡ length line + 1 + length after = ap length same ∙ length-append (line ++ 10 ∷ []) after
+    ∙ ap (λ n. n + length after) (length-append line (10 ∷ [])) in
+    none (length line) (omega arith) (omega arith)
+    (eq-eqb _ 10 (ap (λ t. get_or t (length line) 0) same ∙ feed_at line after))
 
 -- ---- what a word may be
 
@@ -123,20 +139,29 @@ unfolding escaped
 no_break-escaped [] = refl
 no_break-escaped (b ∷ name) =
     list_all-append (λ c. not (is_break c)) (cond (is_plain b) (b ∷ []) (percent_encode_byte b)) (escaped name)
-    ∙ and_from _ _ (cond_both (is_plain b) (b ∷ []) (percent_encode_byte b) HasNoBreak (λ plain. and_from _ _ (plain_not_break b plain) refl) (λ _. no_break-byte b)) (no_break-escaped name)
+    ∙ and_from _ _
+    (cond_both (is_plain b) (b ∷ []) (percent_encode_byte b) HasNoBreak
+    (λ plain. and_from _ _ (plain_not_break b plain) refl) (λ _. no_break-byte b)) (no_break-escaped name)
 
 -- ---- what is taken
 
 -- where nothing that fits is spelled as the word, nothing is taken
-takes_none : {X : Type 0} (spelling : X → List ℕ) (Fits : X → Type 0) (text word rest : List ℕ) → ((x : X) → Fits x → HasNoBreak (spelling x)) → text ≡ word ++ rest → HasNoBreak word → EndsWord rest → ((x : X) → Fits x → spelling x ≢ word) → Takes spelling Fits EndsWord text text None
+takes_none : {X : Type 0} (spelling : X → List ℕ) (Fits : X → Type 0) (text word rest : List ℕ) →
+    ((x : X) → Fits x → HasNoBreak (spelling x)) → text ≡ word ++ rest → HasNoBreak word → EndsWord rest →
+    ((x : X) → Fits x → spelling x ≢ word) → Takes spelling Fits EndsWord text text None
 takes_none spelling Fits text word rest unbroken whole h ends never = record {
   spelled = tt;
-  read = λ x after fits goes same. absurd (never x fits (sym (words_apart word rest (spelling x) after h (unbroken x fits) ends goes (sym whole ∙ same)).0));
+  read = λ x after fits goes same. absurd
+      (never x fits
+      (sym (words_apart word rest (spelling x) after h (unbroken x fits) ends goes (sym whole ∙ same)).0));
   unchanged = refl;
 }
 
 -- where the word is the spelling of something that fits, that is taken
-takes_some : {X : Type 0} (spelling : X → List ℕ) (Fits : X → Type 0) (text word rest : List ℕ) (x : X) → ((y : X) → Fits y → HasNoBreak (spelling y)) → ((y : X) → Fits y → spelling y ≡ word → x ≡ y) → text ≡ word ++ rest → HasNoBreak word → EndsWord rest → Fits x → spelling x ≡ word → Takes spelling Fits EndsWord text rest (Some x)
+takes_some : {X : Type 0} (spelling : X → List ℕ) (Fits : X → Type 0) (text word rest : List ℕ) (x : X) →
+    ((y : X) → Fits y → HasNoBreak (spelling y)) → ((y : X) → Fits y → spelling y ≡ word → x ≡ y) →
+    text ≡ word ++ rest → HasNoBreak word → EndsWord rest → Fits x → spelling x ≡ word →
+    Takes spelling Fits EndsWord text rest (Some x)
 takes_some spelling Fits text word rest x unbroken apart whole h ends fits spells = record {
   spelled = (fits, ends, whole ∙ ap (λ w. w ++ rest) (sym spells));
   read = λ y after fits' goes same.
@@ -145,29 +170,45 @@ takes_some spelling Fits text word rest x unbroken apart whole h ends fits spell
   unchanged = tt;
 }
 
-pub takes_word : (text word rest : List ℕ) → text ≡ word ++ rest → HasNoBreak word → EndsWord rest → 0 < length word → Takes (λ w. w) IsWord EndsWord text rest (Some word)
-takes_word text word rest whole h ends some = takes_some (λ w. w) IsWord text word rest word (λ y fits. fits.1) (λ y fits same. sym same) whole h ends (some, h) refl
+pub takes_word : (text word rest : List ℕ) → text ≡ word ++ rest → HasNoBreak word → EndsWord rest → 0 < length word →
+    Takes (λ w. w) IsWord EndsWord text rest (Some word)
+takes_word text word rest whole h ends some =
+    takes_some (λ w. w) IsWord text word rest word (λ y fits. fits.1) (λ y fits same. sym same) whole h ends
+    (some, h) refl
 
-pub takes_no_word : (text word rest : List ℕ) → text ≡ word ++ rest → HasNoBreak word → EndsWord rest → length word ≡ 0 → Takes (λ w. w) IsWord EndsWord text text None
-takes_no_word text word rest whole h ends empty = takes_none (λ w. w) IsWord text word rest (λ y fits. fits.1) whole h ends (λ y fits same. absurd (omega (arith, fits.0, ap length same)))
+pub takes_no_word : (text word rest : List ℕ) → text ≡ word ++ rest → HasNoBreak word → EndsWord rest →
+    length word ≡ 0 → Takes (λ w. w) IsWord EndsWord text text None
+takes_no_word text word rest whole h ends empty =
+    takes_none (λ w. w) IsWord text word rest (λ y fits. fits.1) whole h ends
+    (λ y fits same. absurd (omega (arith, fits.0, ap length same)))
 
-pub takes_number : (text word rest : List ℕ) (n : ℕ) → text ≡ word ++ rest → HasNoBreak word → EndsWord rest → number_read word ≡ Some n → Takes decimal (λ m. m < 2 ^ 64) EndsWord text rest (Some n)
+pub takes_number : (text word rest : List ℕ) (n : ℕ) → text ≡ word ++ rest → HasNoBreak word → EndsWord rest →
+    number_read word ≡ Some n → Takes decimal (λ m. m < 2 ^ 64) EndsWord text rest (Some n)
 takes_number text word rest n whole h ends reads =
     let form = (one_form word n).0 reads in
-    takes_some decimal (λ m. m < 2 ^ 64) text word rest n no_break-decimal (λ m fits same. decimal_injective n m form.1 fits (sym form.0 ∙ sym same)) whole h ends form.1 (sym form.0)
+    takes_some decimal (λ m. m < 2 ^ 64) text word rest n no_break-decimal
+    (λ m fits same. decimal_injective n m form.1 fits (sym form.0 ∙ sym same)) whole h ends form.1 (sym form.0)
 
-pub takes_no_number : (text word rest : List ℕ) → text ≡ word ++ rest → HasNoBreak word → EndsWord rest → number_read word ≡ None → Takes decimal (λ m. m < 2 ^ 64) EndsWord text text None
+pub takes_no_number : (text word rest : List ℕ) → text ≡ word ++ rest → HasNoBreak word → EndsWord rest →
+    number_read word ≡ None → Takes decimal (λ m. m < 2 ^ 64) EndsWord text text None
 takes_no_number text word rest whole h ends reads =
-    takes_none decimal (λ m. m < 2 ^ 64) text word rest no_break-decimal whole h ends (λ m fits same. let some = (one_form word m).1 (sym same, fits) in cc)
+    takes_none decimal (λ m. m < 2 ^ 64) text word rest no_break-decimal whole h ends
+    (λ m fits same. let some = (one_form word m).1 (sym same, fits) in cc)
 
-pub takes_name : (text word rest name : List ℕ) → text ≡ word ++ rest → HasNoBreak word → EndsWord rest → IsName name → escaped name ≡ word → Takes escaped IsName EndsWord text rest (Some name)
+pub takes_name : (text word rest name : List ℕ) → text ≡ word ++ rest → HasNoBreak word → EndsWord rest → IsName name →
+    escaped name ≡ word → Takes escaped IsName EndsWord text rest (Some name)
 takes_name text word rest name whole h ends fits spells =
-    takes_some escaped IsName text word rest name (λ y _. no_break-escaped y) (λ y fits' same. escapes_apart name y (bytes_from_utf8 name fits.1) (bytes_from_utf8 y fits'.1) (spells ∙ sym same)) whole h ends fits spells
+    takes_some escaped IsName text word rest name (λ y _. no_break-escaped y)
+    (λ y fits' same. escapes_apart name y (bytes_from_utf8 name fits.1) (bytes_from_utf8 y fits'.1)
+    (spells ∙ sym same)) whole h ends fits spells
 
-pub takes_no_name : (text word rest : List ℕ) → text ≡ word ++ rest → HasNoBreak word → EndsWord rest → ((name : List ℕ) → IsName name → escaped name ≢ word) → Takes escaped IsName EndsWord text text None
-takes_no_name text word rest whole h ends never = takes_none escaped IsName text word rest (λ y _. no_break-escaped y) whole h ends never
+pub takes_no_name : (text word rest : List ℕ) → text ≡ word ++ rest → HasNoBreak word → EndsWord rest →
+    ((name : List ℕ) → IsName name → escaped name ≢ word) → Takes escaped IsName EndsWord text text None
+takes_no_name text word rest whole h ends never =
+    takes_none escaped IsName text word rest (λ y _. no_break-escaped y) whole h ends never
 
-pub takes_line : (text line rest : List ℕ) → IsLine line → text ≡ (line ++ 10 ∷ []) ++ rest → Takes (λ l. l ++ 10 ∷ []) IsLine GoesOnAtAll text rest (Some line)
+pub takes_line : (text line rest : List ℕ) → IsLine line → text ≡ (line ++ 10 ∷ []) ++ rest →
+    Takes (λ l. l ++ 10 ∷ []) IsLine GoesOnAtAll text rest (Some line)
 takes_line text line rest h whole = record {
   spelled = (h, tt, whole);
   read = λ l after fits goes same.
@@ -176,8 +217,10 @@ takes_line text line rest h whole = record {
   unchanged = tt;
 }
 
-pub takes_no_line : (text : List ℕ) → ((line after : List ℕ) → IsLine line → text ≢ (line ++ 10 ∷ []) ++ after) → Takes (λ l. l ++ 10 ∷ []) IsLine GoesOnAtAll text text None
-takes_no_line text never = record { spelled = tt; read = λ l after fits goes same. absurd (never l after fits same); unchanged = refl }
+pub takes_no_line : (text : List ℕ) → ((line after : List ℕ) → IsLine line → text ≢ (line ++ 10 ∷ []) ++ after) →
+    Takes (λ l. l ++ 10 ∷ []) IsLine GoesOnAtAll text text None
+takes_no_line text never =
+    record { spelled = tt; read = λ l after fits goes same. absurd (never l after fits same); unchanged = refl }
 
 pub takes_text : (text old rest : List ℕ) → old ≡ text ++ rest → TakesText text old rest true
 takes_text text old rest whole = record {
@@ -204,15 +247,23 @@ pub name_some : (word : List ℕ) → length word ≡ 0 → (name : List ℕ) �
 unfolding escaped percent_encode_byte
 name_some word empty [] fits same = absurd (omega (arith, fits.0))
 name_some word empty (b ∷ name) fits same =
-    let some = cond_both (is_plain b) (b ∷ []) (percent_encode_byte b) (λ x. 0 < length (x ++ escaped name)) (λ _. omega arith) (λ _. omega arith) in
+    let some = cond_both (is_plain b) (b ∷ []) (percent_encode_byte b) (λ x. 0 < length (x ++ escaped name))
+    (λ _. omega arith) (λ _. omega arith) in
     absurd (omega (arith, ap length same, some))
 
-pub name_from : {E : Type 0} (word : List ℕ) (v : Vec ℕ Global) (r : Result (String Global) E) → 0 < length word → AreBytes v.items → escaped v.items ≡ word → IfOk r (λ t. string_vec t ≡ v) → (IsUtf8 v.items → is_ok r ≡ true) → MatchOption (result_ok r) ((name : List ℕ) → IsName name → escaped name ≢ word) (λ t. IsName (string_bytes t) × (escaped (string_bytes t) ≡ word))
+pub name_from : {E : Type 0} (word : List ℕ) (v : Vec ℕ Global) (r : Result (String Global) E) → 0 < length word →
+    AreBytes v.items → escaped v.items ≡ word → IfOk r (λ t. string_vec t ≡ v) → (IsUtf8 v.items → is_ok r ≡ true) →
+    MatchOption (result_ok r) ((name : List ℕ) → IsName name → escaped name ≢ word)
+    (λ t. IsName (string_bytes t) × (escaped (string_bytes t) ≡ word))
 name_from word v (Ok t) some small spells same text =
     let spells' = ap escaped (ap (λ (w : Vec ℕ Global). w.items) same) ∙ spells in
     ((escaped_some (string_bytes t) word spells' some, IsUtf8-string_bytes t), spells')
 name_from word v (Err e) some small spells same text =
-    λ name fits same'. true≢false (sym (text (subst IsUtf8 (escapes_apart name v.items (bytes_from_utf8 name fits.1) small (same' ∙ sym spells)) fits.1)))
+    λ name fits same'. true≢false
+    (sym (text
+    (subst IsUtf8
+    (escapes_apart name v.items (bytes_from_utf8 name fits.1) small (same' ∙ sym spells)) fits.1)))
 
-pub no_name : (word : List ℕ) → ((bytes : List ℕ) → AreBytes bytes → escaped bytes ≢ word) → (name : List ℕ) → IsName name → escaped name ≢ word
+pub no_name : (word : List ℕ) → ((bytes : List ℕ) → AreBytes bytes → escaped bytes ≢ word) → (name : List ℕ) →
+    IsName name → escaped name ≢ word
 no_name word never name fits = never name (bytes_from_utf8 name fits.1)

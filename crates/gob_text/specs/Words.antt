@@ -1,5 +1,6 @@
 -- What is taken off the front of a text, word by word.
-use Rattle.std.specs.Prelude.{◌≡◌, ℕ, ◌<◌, Bool, true, false, ◌||◌, not, nat_eq, List, [], ◌∷◌, ◌++◌, length, IfSome, IfNone, IsUtf8}
+use Rattle.std.specs.Prelude.{◌≡◌, ℕ, ◌<◌, Bool, true, false, ◌||◌, not, nat_eq, List, [], ◌∷◌, ◌++◌, length, IfSome}
+use Rattle.std.specs.Prelude.{IfNone, IsUtf8}
 use Rattle.std.specs.declared.option.Option.{Option}
 use Rattle.std.specs.declared.option.Option.TheVariants.{Some}
 use Rattle.std.specs.List.{list_all}
@@ -40,9 +41,11 @@ GoesOnAtAll rest = Unit {0}
 -- Whatever was taken off the front fits and was spelled so, and the text goes on as it may.
 -- Whatever fits and is spelled so, where the text goes on as it may, is taken.
 -- Where nothing is taken nothing changes.
-pub record Takes {X : Type 0} (spelling : X → List ℕ) (Fits : X → Type 0) (GoesOn : List ℕ → Type 0) (old new : List ℕ) (taken : Option X) : Type 0 where
+pub record Takes {X : Type 0} (spelling : X → List ℕ) (Fits : X → Type 0) (GoesOn : List ℕ → Type 0) (old new : List ℕ)
+    (taken : Option X) : Type 0 where
   pub spelled : IfSome taken (λ x. Fits x × GoesOn new × (old ≡ spelling x ++ new))
-  pub read : (x : X) (after : List ℕ) → Fits x → GoesOn after → old ≡ spelling x ++ after → (taken ≡ Some x) × (new ≡ after)
+  pub read : (x : X) (after : List ℕ) → Fits x → GoesOn after → old ≡ spelling x ++ after →
+      (taken ≡ Some x) × (new ≡ after)
   pub unchanged : IfNone taken (new ≡ old)
 
 -- The text was taken off the front, exactly where it stood there; else nothing changes.

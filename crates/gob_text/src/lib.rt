@@ -8,11 +8,9 @@ mod ends;
 mod front;
 mod names;
 mod numbers;
-#[cfg(test)]
-mod tests;
 mod words;
 
 pub use ends::{first_line_end, last_line_end};
-pub use names::{is_column_name, is_job_name, push_escaped, unescape};
+pub use names::{escaped_len, is_column_name, is_job_name, push_escaped, unescape};
 pub use numbers::{push_i64, push_offset, push_u64, read_i64, read_u64};
 pub use words::Words;

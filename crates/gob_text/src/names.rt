@@ -1,5 +1,6 @@
 //! Names, and names that are escaped.
-ghost use Rattle.std.specs.Prelude.{◌≡◌, ◌≢◌, ◌↔◌, ◌<◌, ◌++◌, ℕ, List, not, OnOk, OnErr, MatchOption, IfOk, IsTrue};
+ghost use Rattle.std.specs.Prelude.{◌≡◌, ◌≢◌, ◌↔◌, ◌<◌, ◌++◌, ℕ, List, length, min, not};
+ghost use Rattle.std.specs.Prelude.{OnOk, OnErr, MatchOption, IfOk, IsTrue};
 ghost use Rattle.std.specs.List.{list_all};
 ghost use Rattle.gob_bytes.specs.Additions.{AddsFront};
 ghost use Rattle.gob_bytes.specs.Names as names;
@@ -22,6 +23,24 @@ pub fn push_escaped(into: &mut Vec<u8>, name: &str) -> Result<(), AllocError>
         into.extend_from_slice(piece.as_bytes())?;
     }
     Ok(())
+}
+
+// Whether the byte stands for itself in an escaped name.
+fn is_plain(byte: u8) -> bool
+    ensures { result ≡ is_plain byte }
+{
+    byte.is_ascii_alphanumeric() || matches!(byte, b'.' | b'_' | b'-')
+}
+
+/// How long the name is once it is escaped; past the end of a `usize` it is that end.
+pub fn escaped_len(name: &str) -> usize
+    ensures { result ≡ min (length (escaped name.now)) usize.MAX }
+{
+    let mut len = 0usize;
+    for byte in name.as_bytes() {
+        len = len.saturating_add(if is_plain(*byte) { 1 } else { 3 });
+    }
+    len
 }
 
 // Whether the text is the name as it is escaped.
@@ -65,12 +84,6 @@ fn is_job_byte(b: u8) -> bool
     is_lower_or_digit(b) || b == b'_' || b == b'-'
 }
 
-fn is_column_byte(b: u8) -> bool
-    ensures { result ≡ is_plain b }
-{
-    b.is_ascii_alphanumeric() || matches!(b, b'.' | b'_' | b'-')
-}
-
 fn begins_as_job(bytes: &[u8]) -> bool
     ensures { result ≡ names.begins_as_job bytes.now }
 {
@@ -89,7 +102,7 @@ fn are_job_bytes(bytes: &[u8]) -> bool
 fn are_column_bytes(bytes: &[u8]) -> bool
     ensures { result ≡ list_all is_plain bytes.now }
 {
-    bytes.iter().all(|b| is_column_byte(*b))
+    bytes.iter().all(|b| is_plain(*b))
 }
 
 /// Whether a job may have this name: 1 to 64 lower-case letters, digits, `_` and `-`, of which the

@@ -1,4 +1,5 @@
 pub mod Refusals
 pub mod Report
+pub mod Commands
 pub mod Laws
 pub mod Examples

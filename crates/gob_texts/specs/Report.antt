@@ -1,6 +1,6 @@
 -- What a run tells: its units, what became of each, and the state that it left.
-use Rattle.std.specs.Prelude.{ℕ, Bool, cond, List, [], ◌∷◌, ◌++◌, map, codes}
-use Rattle.std.specs.List.{flat_map, enumerate_from, list_all}
+use Rattle.std.specs.Prelude.{ℕ, Bool, if◌then◌else◌, List, [], ◌∷◌, ◌++◌, map, codes}
+use Rattle.std.specs.List.{flat_map, enumerate_from, list_all, zip}
 use Rattle.std.specs.Fmt.{decimal}
 use Rattle.gob_bytes.specs.Words.{words, numbered}
 use Rattle.gob_bytes.specs.Escapes.{escaped}
@@ -13,7 +13,9 @@ use Rattle.gob_plan.specs.declared.units.Counts.{Counts}
 use Rattle.gob_plan.specs.declared.units.Unit.{Unit as WorkUnit}
 use Rattle.gob_meaning.specs.Results.{Verdict, good, failed}
 use Rattle.gob_ledger.specs.Marks.{Marks, Done, has}
-use Rattle.gob_ledger.specs.Next.{Judged, allows, is_good}
+use Rattle.gob_plan.specs.declared.plan.CommitScope.{CommitScope}
+use Rattle.gob_ledger.specs.Groups.{is_committed}
+use Rattle.gob_ledger.specs.Next.{Judged, is_good}
 use Rattle.gob_ledger.specs.State.{State}
 use Rattle.gob_texts.specs.Refusals.{status_line}
 
@@ -30,11 +32,13 @@ too_long_line part = words (codes "too-long") (escaped part ∷ [])
 
 -- counts, each with its word
 abbrev pub tally : Counts → List (List ℕ)
-tally c = codes "records" ∷ decimal c.records ∷ codes "bad" ∷ decimal c.bad ∷ codes "rows" ∷ decimal c.rows ∷ codes "unrouted" ∷ decimal c.unrouted ∷ []
+tally c =
+    codes "records" ∷ decimal c.records ∷ codes "bad" ∷ decimal c.bad ∷ codes "rows" ∷ decimal c.rows ∷ codes "unrouted" ∷ decimal c.unrouted ∷ []
 
 -- a branch's number and its counts, each with its word
 abbrev pub branch_tally : ℕ × BranchCounts → List (List ℕ)
-branch_tally p = decimal p.0 ∷ codes "written" ∷ decimal p.1.written ∷ codes "errors" ∷ decimal p.1.errors ∷ codes "optional" ∷ decimal p.1.optional ∷ []
+branch_tally p =
+    decimal p.0 ∷ codes "written" ∷ decimal p.1.written ∷ codes "errors" ∷ decimal p.1.errors ∷ codes "optional" ∷ decimal p.1.optional ∷ []
 
 -- why a unit failed
 abbrev pub cause_words : Cause → List (List ℕ)
@@ -57,17 +61,22 @@ warning_lines warnings = flat_map (λ w. numbered (codes "warning") (w ∷ [])) 
 
 -- what became of a unit; a good one that the policy doesn't let through is held
 abbrev pub unit_lines : Bool → WorkUnit → Verdict → List ℕ
-unit_lines allowed u (good counts warnings) = unit_line u (cond allowed (codes "committed") (codes "held") ∷ tally counts) ++ branch_lines counts ++ warning_lines warnings
+unit_lines allowed u (good counts warnings) =
+    unit_line u ((if allowed then codes "committed" else codes "held") ∷ tally counts) ++ branch_lines counts ++ warning_lines warnings
 unit_lines allowed u (failed why) = unit_line u (codes "failed" ∷ cause_words why)
 
--- the units in order, under the commit policy
-abbrev pub units_lines : CommitPolicy → List Judged → List ℕ
-units_lines policy all = flat_map (λ j. unit_lines (allows policy (map (λ k. k.1) all) j.1) j.0 j.1) all
+-- the units in order, each as it was committed or not
+abbrev pub units_lines : List Judged → List Bool → List ℕ
+units_lines all committed = flat_map (λ e. unit_lines e.1 e.0.0 e.0.1) (zip all committed)
+
+-- which of the units a run commits: each is judged in its group, by the commit policy
+abbrev pub commits_of : CommitScope → CommitPolicy → List Judged → List Bool
+commits_of scope policy all = map (is_committed scope policy all) all
 
 -- up to where the done ranges follow each other from here
 abbrev pub reached : ℕ → List Done → ℕ
 reached at [] = at
-reached at (d ∷ ds) = cond (has at d.span) (reached d.span.hi ds) (reached at ds)
+reached at (d ∷ ds) = if has at d.span then reached d.span.hi ds else reached at ds
 
 -- the least offset that is in no done range
 abbrev pub watermark_of : Marks → ℕ
@@ -86,9 +95,11 @@ total_lines s = count_lines s.totals ++ numbered (codes "runs") (s.run ∷ [])
 
 -- 0 where every unit is good, else 1
 abbrev pub run_status : List Verdict → ℕ
-run_status verdicts = cond (list_all is_good verdicts) 0 1
+run_status verdicts = if list_all is_good verdicts then 0 else 1
 
--- a run's text: the job, the names that are left alone, the units, the marks and totals of the state after it, and the status
-unfoldable pub report_of : List ℕ → CommitPolicy → List (List ℕ) → List Judged → State → List ℕ
-report_of job policy too_long all after = job_line job policy ++ flat_map too_long_line too_long ++ units_lines policy all
+-- a run's text: the job, the names that are left alone, the units and which of them were committed,
+-- the marks and totals of the state after it, and the status
+unfoldable pub report_of : List ℕ → CommitPolicy → List (List ℕ) → List Judged → List Bool → State → List ℕ
+report_of job policy too_long all committed after =
+    job_line job policy ++ flat_map too_long_line too_long ++ units_lines all committed
     ++ flat_map mark_line after.parts ++ total_lines after ++ status_line (run_status (map (λ j. j.1) all))

@@ -10,11 +10,11 @@ use Rattle.std.proofs.lemmas.List.Concat.{flat_map-append}
 use Rattle.std.proofs.lemmas.List.Elements.{All-append, All-cons, All-contains_itself, All-from_recursion, All-get_or, All-nil, All-push, All-same, All-weaker, recursion_from_All}
 use Rattle.gob_bytes.specs.Escapes.{escaped, is_plain}
 use Rattle.gob_bytes.specs.Lines.{last_end}
-use Rattle.gob_bytes.specs.Tables.{Rising, names_of}
+use Rattle.gob_bytes.specs.Tables.{IsInByteOrder, names_of}
 use Rattle.gob_bytes.proofs.Tables.{at_from_member}
 use Rattle.percent_encoding.specs.Percent.{percent_encode_byte}
 use Rattle.gob_device.specs.Causes.{Rose}
-use Rattle.gob_device.specs.Supply.{Fills, Held, IsListed, Supply, bytes_at, given, listing_of, looked}
+use Rattle.gob_device.specs.Supply.{Fills, Held, IsListed, Supply, bytes_at, bytes_from, listing_of, seen_by_look}
 use Rattle.gob_io.specs.Listing.{entry_of}
 use Rattle.gob_io.specs.declared.source.Part.{Part}
 use Rattle.gob_plan.specs.declared.units.Unit.{Unit as WorkUnit}
@@ -55,9 +55,9 @@ escaped_step name bytes i len more now plain same inside so_far tests adds is =
 
 -- ---- looks
 
-pub look_told : (o : Option Supply) (part : List ℕ) (at len n : ℕ) (buffer : List ℕ) (end : Option ℕ) → IfSome o (λ s. Fills buffer n (looked (given s.held part at len))) → end ≡ last_end (take n buffer) → IfSome o (λ s. end ≡ last_end (given s.held part at len))
+pub look_told : (o : Option Supply) (part : List ℕ) (at len n : ℕ) (buffer : List ℕ) (end : Option ℕ) → IfSome o (λ s. Fills buffer n (seen_by_look (bytes_from s.held part at len))) → end ≡ last_end (take n buffer) → IfSome o (λ s. end ≡ last_end (bytes_from s.held part at len))
 look_told None part at len n buffer end fills is = tt
-look_told (Some s) part at len n buffer end fills is = is ∙ (ap last_end fills.front ∙ last_end-looked (given s.held part at len))
+look_told (Some s) part at len n buffer end fills is = is ∙ (ap last_end fills.front ∙ last_end-looked (bytes_from s.held part at len))
 
 pub end_within : (end : Option ℕ) (bs : List ℕ) (n : ℕ) → end ≡ last_end bs → length bs ≤ n → IfSome end (λ e. e ≤ n)
 end_within None bs n is few = tt
@@ -69,10 +69,10 @@ EndsBefore o part size end = IfSome o (λ s. size ≡ length (bytes_at s.held pa
 
 -- the last line end that a look at so many bytes told
 abbrev pub SawEnd : Option Supply → List ℕ → ℕ → ℕ → Option ℕ → Type 0
-SawEnd o part at len end = IfSome o (λ s. end ≡ last_end (given s.held part at len))
+SawEnd o part at len end = IfSome o (λ s. end ≡ last_end (bytes_from s.held part at len))
 
 pub end_found : (o p : Option Supply) (part : List ℕ) (size start len room end at : ℕ) (seen : Option ℕ) → p ≡ o → EndsBefore o part size end → SawEnd p part start room seen → seen ≡ Some at → room ≡ len → start + len ≡ end → end ≤ size → IfSome o (λ s. size ≡ length (bytes_at s.held part) → start + at ≡ unwrap_or (last_end (bytes_at s.held part)) 0)
-unfolding given
+unfolding bytes_from
 end_found o p part size start len room end at seen told before saw some long place fits = by_cases o before (subst (λ q. SawEnd q part start room seen) told saw)
   where
     by_cases : (o : Option Supply) → EndsBefore o part size end → SawEnd o part start room seen → IfSome o (λ s. size ≡ length (bytes_at s.held part) → start + at ≡ unwrap_or (last_end (bytes_at s.held part)) 0)
@@ -84,7 +84,7 @@ end_found o p part size start len room end at seen told before saw some long pla
         sym (ap (λ e. unwrap_or e 0) all)
 
 pub end_passed : (o p : Option Supply) (part : List ℕ) (size start len room end : ℕ) (seen : Option ℕ) → p ≡ o → EndsBefore o part size end → SawEnd p part start room seen → seen ≡ None → room ≡ len → start + len ≡ end → EndsBefore o part size start
-unfolding given
+unfolding bytes_from
 end_passed o p part size start len room end seen told before saw none long place = by_cases o before (subst (λ q. SawEnd q part start room seen) told saw)
   where
     by_cases : (o : Option Supply) → EndsBefore o part size end → SawEnd o part start room seen → EndsBefore o part size start
@@ -152,7 +152,7 @@ names_listed (e ∷ held) = ap (λ (ns : List (List ℕ)). e.0 ∷ ns) (names_li
 
 known : (held : Held) → IsListed (listing_of held) → Known held held
 known held listed =
-    let rising : Rising (names_of held) = subst Rising (names_listed held) listed.rising in
+    let rising : IsInByteOrder (names_of held) = subst IsInByteOrder (names_listed held) listed.rising in
     recursion_from_All (λ e. bytes_at held e.0 ≡ e.1) held (All-weaker (Contains held) (λ e. bytes_at held e.0 ≡ e.1) (λ (e : List ℕ × List ℕ) (within : Contains held e). ap (λ o. unwrap_or o []) (at_from_member held e.0 e.1 rising within)) held (All-contains_itself held))
 
 -- a listing's head is the table's
@@ -227,7 +227,7 @@ abbrev IsHeld : Held → WorkUnit → Type 0
 IsHeld all u = length (unit_bytes all u) ≡ u.hi
 
 one_held : (all : Held) (e : List ℕ × List ℕ) → bytes_at all e.0 ≡ e.1 → All (IsHeld all) (unit_of e)
-unfolding given
+unfolding bytes_from
 one_held all e is = cond_both (is_short e.0) _ _ (All (IsHeld all)) (λ _. up_to (last_end e.1) refl) (λ _. All-nil (IsHeld all))
   where
     long : (bytes : List ℕ) (hi : ℕ) → hi ≤ length bytes → length (take (hi - 0) (drop 0 bytes)) ≡ hi

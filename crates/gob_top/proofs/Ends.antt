@@ -4,7 +4,7 @@ use Rattle.std.specs.List.{last_or}
 use Rattle.std.proofs.lemmas.List.{length-take, length-take-le, nil_from_length}
 use Rattle.std.proofs.Math.Seq.{take-add}
 use Rattle.gob_bytes.specs.Lines.{end_of, last_end, lines_from}
-use Rattle.gob_device.specs.Supply.{line_end_or_zero, looked}
+use Rattle.gob_device.specs.Supply.{line_end_or_zero, seen_by_look}
 
 -- the last line end from a place on, where there is one, and else the one before
 abbrev last_from : ℕ → Option ℕ → List ℕ → Option ℕ
@@ -66,9 +66,9 @@ last_looked (b ∷ bs) place before =
     ∙ last_looked bs (suc place) (cond (nat_eq b 10) (Some (suc place)) before)
 
 -- a look tells where the last line ends
-pub last_end-looked : (bs : List ℕ) → last_end (looked bs) ≡ last_end bs
-unfolding looked
-last_end-looked bs = last_is (looked bs) ∙ last_looked bs 0 None ∙ sym (last_is bs)
+pub last_end-looked : (bs : List ℕ) → last_end (seen_by_look bs) ≡ last_end bs
+unfolding seen_by_look
+last_end-looked bs = last_is (seen_by_look bs) ∙ last_looked bs 0 None ∙ sym (last_is bs)
 
 -- an end that is given holds, and every other one lies in the text
 last_inside : (bs : List ℕ) (place : ℕ) (before : Option ℕ) (e : ℕ) → last_from place before bs ≡ Some e → (before ≡ Some e) ⊎ ((place < e) × (e ≤ place + length bs))

@@ -13,3 +13,4 @@ pub mod Published
 pub mod Named
 pub mod Order
 pub mod Ran
+pub mod Called

@@ -1,7 +1,7 @@
 -- The files that a first run over plain lines leaves.
-use Rattle.std.proofs.Common.{◌≡◌, ◌≢◌, ◌⊎◌, ◌↔◌, inl, inr, ⊎_elim, ℕ, zero, suc, ◌+◌, ◌-◌, ◌^◌, ◌<◌, ◌≤◌, Bool, true, false, cond, not, ◌&&◌, nat_eq, nat_lt, List, [], ◌∷◌, ◌++◌, map, length, All, None, Some, option_map, codes, refl, sym, ap, subst, ◌∙◌, arith, length-append, get_or, lit<}
+use Rattle.std.proofs.Common.{◌≡◌, ◌≢◌, ◌⊎◌, ◌↔◌, inl, inr, ⊎_elim, ℕ, zero, suc, ◌+◌, ◌-◌, ◌^◌, ◌<◌, ◌≤◌, Bool, true, false, cond, not, ◌&&◌, ◌||◌, nat_eq, nat_lt, List, [], ◌∷◌, ◌++◌, map, length, All, None, Some, option_map, codes, refl, sym, ap, subst, ◌∙◌, arith, length-append, append-nil, get_or, lit<}
 use Rattle.std.specs.declared.option.Option.{Option}
-use Rattle.std.specs.List.{AllByRecursion, Contains, list_all, zip}
+use Rattle.std.specs.List.{AllByRecursion, Contains, IsDistinct, flat_map, list_all, zip}
 use Rattle.std.specs.Fmt.{decimal}
 use Rattle.std.specs.Str.{IsUtf8, bytes_eq, is_utf8}
 use Rattle.std.proofs.lemmas.Bool.{and_parts, both_ways, cond-false, cond-true, eq-eqb, false≢true, le-leb, ltb-true}
@@ -12,15 +12,15 @@ use Rattle.std.proofs.lemmas.List.Sums.{AllPass-from_list_all}
 use Rattle.gob_bytes.specs.Digits.{offset}
 use Rattle.gob_bytes.specs.Escapes.{escaped}
 use Rattle.gob_bytes.specs.Lines.{ends_in_lf}
-use Rattle.gob_bytes.specs.Paths.{begins_with, is_published, state_name, under}
-use Rattle.gob_bytes.specs.Tables.{Table, Rising, at_name, names_of}
+use Rattle.gob_bytes.specs.Paths.{begins_with, delta_folder, is_published, state_name, under}
+use Rattle.gob_bytes.specs.Tables.{Table, IsInByteOrder, at_name, names_of}
 use Rattle.gob_bytes.proofs.Forms.{bytes_from_utf8, escapes_apart, offsets_one_form}
 use Rattle.gob_bytes.proofs.Tables.{at_from_member, name_itself, same_name, two_names}
 use Rattle.gob_device.specs.Disk.{File, Files, clean, contents_at, contents_of, put}
 use Rattle.gob_device.specs.Supply.{Held, IsListed, listing_of}
 use Rattle.gob_plan.specs.declared.plan.CommitPolicy.TheVariants.{Full}
 use Rattle.gob_plan.specs.declared.units.Unit.{Unit as WorkUnit}
-use Rattle.gob_meaning.specs.Fold.{pieces_of, sent_to, unit_fold}
+use Rattle.gob_meaning.specs.Fold.{deliveries_of, sent_to, unit_fold}
 use Rattle.gob_meaning.specs.Items.{Target, bad, err, out}
 use Rattle.gob_meaning.specs.Job.{plain_job, plain_pipeline, plain_plan}
 use Rattle.gob_meaning.specs.Laws.{MakesItself, has_crlf}
@@ -30,15 +30,21 @@ use Rattle.gob_meaning.proofs.PlainLines.{plain_lines}
 use Rattle.gob_ledger.specs.Expected.{IsMade, IsPublished}
 use Rattle.gob_ledger.specs.Marks.{Done, Marks, Tiled}
 use Rattle.gob_ledger.specs.Next.{Judged, allowed_units}
-use Rattle.gob_ledger.specs.Spelling.{IsPipeline, IsSetting, Proper, ProperPart, Small, SmallBranch, is_key, state_text}
+use Rattle.gob_ledger.specs.Spelling.{Proper, ProperPart, Small, SmallBranch, state_spelling, version_1, IsKeptPipeline}
+use Rattle.gob_jobs.specs.Pipelines.{IsSetting, is_key}
 use Rattle.gob_ledger.specs.Units.{span_of}
+use Rattle.gob_ledger.specs.Delta.{KeepsNothing}
+use Rattle.gob_ledger.specs.Groups.{groups_of}
+use Rattle.gob_ledger.specs.State.{State}
 use Rattle.gob_history.specs.Runs.{RunLeft, done_units, run_verdicts}
+use Rattle.gob_history.proofs.Fronts.{change_not_state, published_not_kept}
+use Rattle.gob_history.proofs.Kept.{is_change}
 use Rattle.gob_history.specs.Sound.{Stores}
 use Rattle.gob_top.specs.Plain.{after_first, done_to, first_state, good_lines, line_number, plain_units, total_of, unit_bytes, unit_name, with_units}
 use Rattle.gob_top.specs.Runs.{is_plain_text}
 use Rattle.gob_top.proofs.PlainUnits.{AllPlain}
 use Rattle.gob_top.proofs.PlainVerdicts.{verdicts-plain}
-use Rattle.gob_top.proofs.PlainState.{IsTop, after-plain, all_allowed, doing, judged, kept_first, marked, state_of, tops, tops_all, tops_rising, total_small, units-tops, whole}
+use Rattle.gob_top.proofs.PlainState.{IsTop, after-plain, all_allowed, doing, judged, judged_are, kept_first, marked, state_of, tops, tops_all, tops_rising, total_small, units-tops, whole}
 
 -- ---- members
 
@@ -77,9 +83,9 @@ setting_from s fits =
       bytes = All-weaker (λ b. is_byte b ≡ true) (λ b. b < 256) (λ b e. ltb-true b 256 e) s.1 (AllPass-from_list_all is_byte s.1 parts.1);
     }
 
-plain_text_is_pipeline : IsPipeline plain_pipeline
+plain_text_is_pipeline : IsKeptPipeline plain_pipeline
 unfolding escaped
-plain_text_is_pipeline = (settings, All-weaker (λ s. setting_fits s ≡ true) (λ s. IsSetting s.0 s.1) setting_from settings (AllPass-from_list_all setting_fits settings refl), refl)
+plain_text_is_pipeline = (settings, All-weaker (λ s. setting_fits s ≡ true) (λ s. IsSetting s.0 s.1) setting_from settings (AllPass-from_list_all setting_fits settings refl), refl, lit< tt)
 
 -- ---- the state has a spelling
 
@@ -126,18 +132,20 @@ names_marked : (ts : Table ℕ) → names_of (map doing ts) ≡ names_of ts
 names_marked [] = refl
 names_marked (t ∷ ts) = ap (λ (ns : List (List ℕ)). t.0 ∷ ns) (names_marked ts)
 
-proper_first : (p : List ℕ) (ts : Table ℕ) (ns : List ℕ) → IsPipeline p → AllByRecursion IsTop ts → AllByRecursion IsText ts → Rising (names_of ts) → Proper (state_of 1 (p ∷ []) (total_of ns) (map doing ts))
+proper_first : (p : List ℕ) (ts : Table ℕ) (ns : List ℕ) → IsKeptPipeline p → AllByRecursion IsTop ts → AllByRecursion IsText ts → IsInByteOrder (names_of ts) → Proper (state_of 1 (p ∷ []) (total_of ns) (map doing ts))
+unfolding IsDistinct
 proper_first p ts ns pipeline all texts rising =
     let bound : total_of ns ≤ 2 ^ 64 - 1 = total_small ns in
     let small : Small (total_of ns) = omega arith in
     let none : Small 0 = omega arith in
     record {
       run = omega arith;
-      one_pipeline = refl;
-      pipelines = All-cons IsPipeline p [] pipeline (All-nil IsPipeline);
+      pipelines = All-cons IsKeptPipeline p [] pipeline (All-nil IsKeptPipeline);
+      few = lit< tt;
+      differ = (tt, tt);
       totals = record { records = small; bad = none; rows = small; unrouted = none; branches = All-cons SmallBranch _ [] (record { written = small; errors = none; optional = none }) (All-nil SmallBranch) };
       branches = (omega arith, omega arith);
-      names = subst Rising (sym (names_marked ts)) rising;
+      names = subst IsInByteOrder (sym (names_marked ts)) rising;
       parts = λ part m is. let f = part_of ts part m all texts is in
           subst (ProperPart part) f.marks (record { named = f.top.named; text = f.text; begun = f.top.begun; small = f.top.small });
       tiled = record {
@@ -202,7 +210,7 @@ unit_part job u v text text' same =
     escapes_apart u.part v.part (bytes_from_utf8 u.part text) (bytes_from_utf8 v.part text') (target_part u.part v.part u.lo u.hi v.lo v.hi paths)
 
 -- two units of one name are one
-one_unit : (job : List ℕ) (ts : Table ℕ) (t u : List ℕ × ℕ) → Rising (names_of ts) → AllByRecursion IsText ts → Contains ts t → Contains ts u → unit_name job (whole t) ≡ unit_name job (whole u) → t ≡ u
+one_unit : (job : List ℕ) (ts : Table ℕ) (t u : List ℕ × ℕ) → IsInByteOrder (names_of ts) → AllByRecursion IsText ts → Contains ts t → Contains ts u → unit_name job (whole t) ≡ unit_name job (whole u) → t ≡ u
 one_unit job ts t u rising texts of_t of_u same =
     let all = All-from_recursion IsText ts texts in
     let part : t.0 ≡ u.0 = unit_part job (whole t) (whole u) (All-contains IsText ts t all of_t) (All-contains IsText ts u all of_u) same in
@@ -221,7 +229,7 @@ target_either bad = inr (λ e. absurd (cc))
 
 -- what is known of the partitions and their bytes
 record ArePlain (held : Held) (ts : Table ℕ) : Type 0 where
-  rising : Rising (names_of ts)
+  rising : IsInByteOrder (names_of ts)
   texts : AllByRecursion IsText ts
   itself : (t : List ℕ × ℕ) → Contains ts t → MakesItself 0 (unit_bytes held (whole t))
   some : (t : List ℕ × ℕ) → Contains ts t → unit_bytes held (whole t) ≢ []
@@ -258,7 +266,7 @@ made_alone held t path content itself made =
     ⊎_elim
     (λ (e : made.target ≡ out 0 []). (
       ap (target_name plain_plan t.0 0 t.1) (sym e) ∙ made.called,
-      sym itself.sent ∙ ap (λ x. sent_to x (pieces_of (unit_fold plain_plan 0 (unit_bytes held (whole t))))) (sym e) ∙ made.sends,
+      sym itself.sent ∙ ap (λ x. sent_to x (deliveries_of (unit_fold plain_plan 0 (unit_bytes held (whole t))))) (sym e) ∙ made.sends,
     ))
     (λ other. absurd (made.some (sym made.sends ∙ itself.alone made.target other)))
     (target_either made.target)
@@ -333,7 +341,7 @@ after_other : (job : List ℕ) (us : List WorkUnit) (contents : List (List ℕ))
     → after_first job us contents m q ≡ with_units job (zip us contents) m q
 after_other job [] contents m q apart = refl
 after_other job (u ∷ us) contents m q apart =
-    put_other (with_units job (zip (u ∷ us) contents) m) (state_name job) q (Some (clean (state_text (first_state (u ∷ us) (map line_number contents))))) apart
+    put_other (with_units job (zip (u ∷ us) contents) m) (state_name job) q (Some (clean (state_spelling version_1 (first_state (u ∷ us) (map line_number contents))))) apart
 
 -- ---- the files
 
@@ -379,16 +387,41 @@ numbers_are : (held : Held) (us : List WorkUnit) → map line_number (map (unit_
 numbers_are held [] = refl
 numbers_are held (u ∷ us) = ap (λ (ns : List ℕ). line_number (unit_bytes held u) ∷ ns) (numbers_are held us)
 
-stored_first : (job : List ℕ) (held : Held) (ts : Table ℕ) (m : Files) → AllByRecursion IsTop ts → AllByRecursion IsText ts → Rising (names_of ts) → contents_at m (state_name job) ≡ None
+-- a name of a change is none of the state or of a unit
+passed_changes : (job : List ℕ) (held : Held) (ts : Table ℕ) (m : Files) (name : List ℕ) → begins_with (delta_folder job) name ≡ true
+    → after_first job (map whole ts) (map (unit_bytes held) (map whole ts)) m name ≡ m name
+passed_changes job held ts m name below =
+    let unpublished : is_published job name ≡ false = never (is_published job name) (λ p. published_not_kept job name p (is_change job name below)) in
+    let apart : bytes_eq name (state_name job) ≡ false = two_names name (state_name job)
+    (λ same. both_ways (begins_with (delta_folder job) name) (ap (begins_with (delta_folder job)) same ∙ change_not_state job) below) in
+    after_other job (map whole ts) (map (unit_bytes held) (map whole ts)) m name apart ∙ others_first job held ts m name unpublished
+  where
+    never : (b : Bool) → (b ≡ true → ⊥) → b ≡ false
+    never true f = absurd (f refl)
+    never false f = refl
+
+stored_first : (job : List ℕ) (held : Held) (ts : Table ℕ) (m : Files) → AllByRecursion IsTop ts → AllByRecursion IsText ts → IsInByteOrder (names_of ts) → KeepsNothing job m
     → Stores job (after_first job (map whole ts) (map (unit_bytes held) (map whole ts)) m) (kept_first (map whole ts) (map (λ u. line_number (unit_bytes held u)) (map whole ts)))
-stored_first job held [] m all texts rising none = none
+stored_first job held [] m all texts rising none = (None, none, refl)
 stored_first job held (t ∷ ts) m all texts rising none =
     let us : List WorkUnit = map whole (t ∷ ts) in
     let contents = map (unit_bytes held) us in
-    let ns = map (λ (u : WorkUnit). line_number (unit_bytes held u)) us in (
-      put_here (with_units job (zip us contents) m) (state_name job) (state_text (first_state us (map line_number contents)))
-          ∙ ap (λ (k : List ℕ). Some (state_text (first_state us k))) (numbers_are held us),
-      subst (λ es. Proper (state_of 1 (plain_pipeline ∷ []) (total_of ns) es)) (marked (t ∷ ts)) (proper_first plain_pipeline (t ∷ ts) ns plain_text_is_pipeline all texts rising),
+    let ns = map (λ (u : WorkUnit). line_number (unit_bytes held u)) us in
+    let base : State = first_state us ns in (
+      Some (record { version = version_1; base = base; later = [] }),
+      (
+        record {
+          base = put_here (with_units job (zip us contents) m) (state_name job) (state_spelling version_1 (first_state us (map line_number contents)))
+              ∙ ap (λ (k : List ℕ). Some (state_spelling version_1 (first_state us k))) (numbers_are held us);
+          deltas = λ name below. ap (option_map contents_of) (passed_changes job held (t ∷ ts) m name below) ∙ none.deltas name below;
+        },
+        record {
+          base = subst (λ es. Proper (state_of 1 (plain_pipeline ∷ []) (total_of ns) es)) (marked (t ∷ ts)) (proper_first plain_pipeline (t ∷ ts) ns plain_text_is_pipeline all texts rising);
+          fits = refl;
+          later = tt;
+        },
+      ),
+      refl,
     )
 
 -- ---- a plain run
@@ -407,7 +440,7 @@ texts_of : (ts : Table ℕ) → All (λ (u : WorkUnit). IsUtf8 u.part) (map whol
 texts_of [] all = tt
 texts_of (t ∷ ts) all = (All-head (λ (u : WorkUnit). IsUtf8 u.part) (whole t) (map whole ts) all, texts_of ts (All-tail (λ (u : WorkUnit). IsUtf8 u.part) (whole t) (map whole ts) all))
 
-are_plain : (held : Held) (ts : Table ℕ) → Rising (names_of ts) → AllByRecursion IsText ts → list_all (λ u. is_plain_text (unit_bytes held u)) (map whole ts) ≡ true → ArePlain held ts
+are_plain : (held : Held) (ts : Table ℕ) → IsInByteOrder (names_of ts) → AllByRecursion IsText ts → list_all (λ u. is_plain_text (unit_bytes held u)) (map whole ts) ≡ true → ArePlain held ts
 are_plain held ts rising texts all =
     let test : List ℕ × ℕ → Bool = λ t. is_plain_text (unit_bytes held (whole t)) in
     let each = AllPass-from_list_all test ts (sym (list_all-map (λ (u : WorkUnit). is_plain_text (unit_bytes held u)) whole ts) ∙ all) in
@@ -420,12 +453,12 @@ are_plain held ts rising texts all =
       some = λ t h. some_since (unit_bytes held (whole t)) (parts t h).0;
     }
 
-done_are : (us : List WorkUnit) (vs : List Verdict) (ts : Table ℕ) (f : WorkUnit → ℕ) → us ≡ map whole ts → vs ≡ map good_lines (map f us) → allowed_units Full (zip us vs) ≡ judged f ts
-done_are us vs ts f are judge =
-    ap (λ ws. allowed_units Full (zip us ws)) judge ∙ ap (λ xs. allowed_units Full (zip xs (map good_lines (map f xs)))) are ∙ all_allowed f ts
+one_group : (f : WorkUnit → ℕ) (ts : Table ℕ) → flat_map (allowed_units Full) (judged f ts ∷ []) ≡ judged f ts
+one_group f ts = append-nil (allowed_units Full (judged f ts)) ∙ all_allowed f ts
 
-pub left-plain : (job : List ℕ) (held : Held) (m : Files) → IsListed (listing_of held) → AllPlain held → (few : length held ≤ 2 ^ 63) → All (λ u. IsUtf8 u.part) (plain_units held) → contents_at m (state_name job) ≡ None
+pub left-plain : (job : List ℕ) (held : Held) (m : Files) → IsListed (listing_of held) → AllPlain held → (few : length held ≤ 2 ^ 63) → All (λ u. IsUtf8 u.part) (plain_units held) → KeepsNothing job m
     → RunLeft (plain_job job) held m None [] (after_first job (plain_units held) (map (unit_bytes held) (plain_units held)) m)
+unfolding groups_of
 left-plain job held m listed plain few utf8 none =
     let ts = tops held in
     let f = λ (u : WorkUnit). line_number (unit_bytes held u) in
@@ -433,7 +466,8 @@ left-plain job held m listed plain few utf8 none =
     let rising = tops_rising held listed.rising in
     let texts = texts_of ts (subst (All (λ (u : WorkUnit). IsUtf8 u.part)) are utf8) in
     let facts = are_plain held ts rising texts (ap (list_all (λ (u : WorkUnit). is_plain_text (unit_bytes held u))) (sym are) ∙ plain) in
-    let done : done_units (plain_job job) held [] None ≡ judged f ts = done_are (plain_units held) (run_verdicts (plain_job job) held [] None) ts f are (verdicts-plain job held listed plain) in
+    let done : done_units (plain_job job) held [] None ≡ judged f ts =
+    ap (λ js. flat_map (allowed_units Full) (js ∷ [])) (judged_are (plain_units held) (run_verdicts (plain_job job) held [] None) ts f are (verdicts-plain job held listed plain)) ∙ one_group f ts in
     let left = after_first job (plain_units held) (map (unit_bytes held) (plain_units held)) m in
     let put_at : (name : List ℕ) → bytes_eq name (state_name job) ≡ false → left name ≡ units_put job (unit_bytes held) ts m name =
     (λ name apart. after_other job (plain_units held) (map (unit_bytes held) (plain_units held)) m name apart ∙ ap (λ us. with_units job (zip us (map (unit_bytes held) us)) m name) are) in
@@ -443,5 +477,9 @@ left-plain job held m listed plain few utf8 none =
       published = λ name content is. subst (λ ds. (contents_at left name ≡ Some content) ↔ (IsPublished job plain_plan held ds name content
           ⊎ ((contents_at m name ≡ Some content) × ((other : List ℕ) → IsPublished job plain_plan held ds name other → ⊥)))) (sym done)
           (published_first job held f ts m left name content facts (put_at name (published_apart job name is)));
-      others = λ name unpublished apart. put_at name (two_names name (state_name job) apart) ∙ others_first job held ts m name unpublished;
+      others = λ name unpublished apart. put_at name (or_first (bytes_eq name (state_name job)) _ apart) ∙ others_first job held ts m name unpublished;
     }
+  where
+    or_first : (a b : Bool) → (a || b) ≡ false → a ≡ false
+    or_first true b e = absurd (false≢true (sym e))
+    or_first false b e = refl

@@ -12,22 +12,23 @@ use Rattle.std.proofs.lemmas.Bool.{eq-eqb}
 use Rattle.std.proofs.lemmas.List.{map-append}
 use Rattle.std.proofs.lemmas.List.Elements.{All-head, All-map, All-tail}
 use Rattle.gob_bytes.specs.Lines.{end_of, last_end, line_ends, lines}
-use Rattle.gob_bytes.specs.Tables.{Table, Rising, at_name, name_cmp, names_of, with_name}
+use Rattle.gob_bytes.specs.Tables.{Table, IsInByteOrder, at_name, name_cmp, names_of, with_name}
 use Rattle.gob_bytes.proofs.Cuts.{lines_fill}
 use Rattle.gob_bytes.proofs.Tables.{at_head, at_tail, less_apart, less_then, name_itself, name_level, rising_tail, two_names}
 use Rattle.gob_device.specs.Supply.{Held, IsEntry, IsListed, listing_of}
 use Rattle.gob_plan.specs.declared.plan.CommitPolicy.TheVariants.{Full}
 use Rattle.gob_plan.specs.declared.units.Unit.{Unit as WorkUnit}
-use Rattle.gob_meaning.specs.Fold.{capped}
+use Rattle.gob_meaning.specs.Fold.{saturate_u64}
 use Rattle.gob_meaning.specs.Job.{plain_job, plain_pipeline}
 use Rattle.gob_meaning.specs.Laws.{all_written}
 use Rattle.gob_meaning.specs.Results.{Verdict}
 use Rattle.gob_ledger.specs.Marks.{Marks, Span}
-use Rattle.gob_ledger.specs.Next.{Judged, add_unit, allowed_units, committed, committed_or, finish_unit, fold_units, is_good, next_state, no_marks, pipeline_index, with_done, with_pipeline}
+use Rattle.gob_ledger.specs.Next.{Judged, add_unit, allowed_units, state_with_commit, state_with_commit_or, finish_unit, fold_units, is_good, next_state, no_marks, pipeline_index, with_done, with_pipeline}
 use Rattle.gob_ledger.specs.State.{State, empty_state}
 use Rattle.gob_meaning.specs.Sums.{sum_of}
 use Rattle.gob_ledger.specs.Units.{is_short, new_unit}
-use Rattle.gob_history.specs.Runs.{run_verdicts, state_after, state_or_empty, stored_where}
+use Rattle.gob_ledger.specs.Groups.{groups_of}
+use Rattle.gob_history.specs.Runs.{group_units, group_verdicts, run_verdicts, state_after, state_or_empty, stored_where}
 use Rattle.gob_top.specs.Plain.{done_to, first_state, good_lines, line_number, plain_units, total_of, unit_bytes}
 use Rattle.gob_top.proofs.PlainUnits.{AllPlain, numbers_of, unit_of, units-flat}
 use Rattle.gob_top.proofs.PlainVerdicts.{verdicts-plain}
@@ -68,21 +69,21 @@ top_either e P none some = pick (is_short e.0) (last_end e.1) refl
     pick true None is = none
     pick true (Some hi) is = some hi is
 
-skip_second : (low y : List ℕ) (zs : List (List ℕ)) → name_cmp low y ≡ Less → Rising (y ∷ zs) → Rising (low ∷ zs)
+skip_second : (low y : List ℕ) (zs : List (List ℕ)) → name_cmp low y ≡ Less → IsInByteOrder (y ∷ zs) → IsInByteOrder (low ∷ zs)
 skip_second low y [] less rising = tt
 skip_second low y (z ∷ zs) less rising = (less_then low y z less rising.0, rising.1)
 
-tops_under : (low : List ℕ) (held : Held) → Rising (low ∷ names_of (listing_of held)) → Rising (low ∷ names_of (tops held))
+tops_under : (low : List ℕ) (held : Held) → IsInByteOrder (low ∷ names_of (listing_of held)) → IsInByteOrder (low ∷ names_of (tops held))
 tops_under low [] rising = tt
 tops_under low (e ∷ es) rising =
-    top_either e (λ t. Rising (low ∷ names_of (t ++ tops es)))
+    top_either e (λ t. IsInByteOrder (low ∷ names_of (t ++ tops es)))
     (tops_under low es (skip_second low e.0 (names_of (listing_of es)) rising.0 rising.1))
     (λ hi _. (rising.0, tops_under e.0 es rising.1))
 
-pub tops_rising : (held : Held) → Rising (names_of (listing_of held)) → Rising (names_of (tops held))
+pub tops_rising : (held : Held) → IsInByteOrder (names_of (listing_of held)) → IsInByteOrder (names_of (tops held))
 tops_rising [] rising = tt
 tops_rising (e ∷ es) rising =
-    top_either e (λ t. Rising (names_of (t ++ tops es)))
+    top_either e (λ t. IsInByteOrder (names_of (t ++ tops es)))
     (tops_rising es (rising_tail e.0 (names_of (listing_of es)) rising))
     (λ hi _. tops_under e.0 es rising)
 
@@ -157,7 +158,7 @@ stands_none : (ts : Table ℕ) → Stands [] ts
 stands_none [] = tt
 stands_none (t ∷ ts) = tt
 
-stands_next : (front : Table Marks) (t : List ℕ × ℕ) (m : Marks) (ts : Table ℕ) → Below front t.0 → Rising (names_of (t ∷ ts)) → Stands (front ++ (t.0, m) ∷ []) ts
+stands_next : (front : Table Marks) (t : List ℕ × ℕ) (m : Marks) (ts : Table ℕ) → Below front t.0 → IsInByteOrder (names_of (t ∷ ts)) → Stands (front ++ (t.0, m) ∷ []) ts
 stands_next front t m [] below rising = tt
 stands_next front t m (u ∷ us) below rising = below_push front t.0 m u.0 below rising.0
 
@@ -188,7 +189,7 @@ add_step run ps a front t v below =
     add_unit_at : Option Marks → State
     add_unit_at o = state_of run ps a (with_name front t.0 (record (unwrap_or o no_marks) { next = t.1; owed = (unwrap_or o no_marks).owed ++ record { lo = 0; hi = t.1 } ∷ [] }))
 
-add_all : (run : ℕ) (ps : List (List ℕ)) (a : ℕ) (front : Table Marks) (ts : Table ℕ) (f : WorkUnit → ℕ) → Stands front ts → Rising (names_of ts)
+add_all : (run : ℕ) (ps : List (List ℕ)) (a : ℕ) (front : Table Marks) (ts : Table ℕ) (f : WorkUnit → ℕ) → Stands front ts → IsInByteOrder (names_of ts)
     → fold_units add_unit (state_of run ps a front) (judged f ts) ≡ state_of run ps a (front ++ map owing ts)
 add_all run ps a front [] f stands rising = ap (state_of run ps a) (sym (append-nil front))
 add_all run ps a front (t ∷ ts) f stands rising =
@@ -200,49 +201,49 @@ done_one : (hi : ℕ) → with_done 0 (record { lo = 0; hi = hi }) (owed_to hi) 
 done_one hi = rw (eq-eqb hi hi refl) refl
 
 finish_step : (run : ℕ) (ps : List (List ℕ)) (a n : ℕ) (front : Table Marks) (t : List ℕ × ℕ) (rest : Table Marks) → Below front t.0
-    → finish_unit 0 (state_of run ps a (front ++ owing t ∷ rest)) (whole t, good_lines n) ≡ state_of run ps (capped (a + n)) ((front ++ doing t ∷ []) ++ rest)
+    → finish_unit 0 (state_of run ps a (front ++ owing t ∷ rest)) (whole t, good_lines n) ≡ state_of run ps (saturate_u64 (a + n)) ((front ++ doing t ∷ []) ++ rest)
 unfolding sum_of
 finish_step run ps a n front t rest below =
     let s : Span = record { lo = 0; hi = t.1 } in
-    ap (state_of run ps (capped (a + n)))
+    ap (state_of run ps (saturate_u64 (a + n)))
     (ap (λ o. with_name (front ++ owing t ∷ rest) t.0 (with_done 0 s (unwrap_or o no_marks))) (at_there front t.0 (owed_to t.1) rest below)
     ∙ put_there front t.0 (owed_to t.1) (with_done 0 s (owed_to t.1)) rest below
     ∙ ap (λ (m : Marks). front ++ (t.0, m) ∷ rest) (done_one t.1)
     ∙ sym (append_assoc front (doing t ∷ []) rest))
 
-sums : (a n later : ℕ) → capped (capped (a + n) + later) ≡ capped (a + capped (n + later))
+sums : (a n later : ℕ) → saturate_u64 (saturate_u64 (a + n) + later) ≡ saturate_u64 (a + saturate_u64 (n + later))
 sums a n later = omega arith
 
-finish_all : (run : ℕ) (ps : List (List ℕ)) (a : ℕ) (front : Table Marks) (ts : Table ℕ) (f : WorkUnit → ℕ) → a ≤ 2 ^ 64 - 1 → Stands front ts → Rising (names_of ts)
-    → fold_units (finish_unit 0) (state_of run ps a (front ++ map owing ts)) (judged f ts) ≡ state_of run ps (capped (a + total_of (map f (map whole ts)))) (front ++ map doing ts)
-finish_all run ps a front [] f small stands rising = let same : a ≡ capped (a + 0) = omega arith in ap (λ n. state_of run ps n (front ++ [])) same
+finish_all : (run : ℕ) (ps : List (List ℕ)) (a : ℕ) (front : Table Marks) (ts : Table ℕ) (f : WorkUnit → ℕ) → a ≤ 2 ^ 64 - 1 → Stands front ts → IsInByteOrder (names_of ts)
+    → fold_units (finish_unit 0) (state_of run ps a (front ++ map owing ts)) (judged f ts) ≡ state_of run ps (saturate_u64 (a + total_of (map f (map whole ts)))) (front ++ map doing ts)
+finish_all run ps a front [] f small stands rising = let same : a ≡ saturate_u64 (a + 0) = omega arith in ap (λ n. state_of run ps n (front ++ [])) same
 finish_all run ps a front (t ∷ ts) f small stands rising =
     let n : ℕ = f (whole t) in
     let later : ℕ = total_of (map f (map whole ts)) in
-    let less : capped (a + n) ≤ 2 ^ 64 - 1 = omega arith in
+    let less : saturate_u64 (a + n) ≤ 2 ^ 64 - 1 = omega arith in
     ap (λ s. fold_units (finish_unit 0) s (judged f ts)) (finish_step run ps a n front t (map owing ts) stands)
-    ∙ finish_all run ps (capped (a + n)) (front ++ doing t ∷ []) ts f less (stands_next front t (done_to t.1) ts stands rising) (rising_tail t.0 (names_of ts) rising)
+    ∙ finish_all run ps (saturate_u64 (a + n)) (front ++ doing t ∷ []) ts f less (stands_next front t (done_to t.1) ts stands rising) (rising_tail t.0 (names_of ts) rising)
     ∙ ap (λ k. state_of run ps k ((front ++ doing t ∷ []) ++ map doing ts)) (sums a n later)
-    ∙ ap (state_of run ps (capped (a + capped (n + later)))) (append_assoc front (doing t ∷ []) (map doing ts))
+    ∙ ap (state_of run ps (saturate_u64 (a + saturate_u64 (n + later)))) (append_assoc front (doing t ∷ []) (map doing ts))
 
 pub total_small : (ns : List ℕ) → total_of ns ≤ 2 ^ 64 - 1
 total_small [] = omega arith
 total_small (n ∷ ns) = omega arith
 
--- the pipeline is there already
-pipeline_there : (p : List ℕ) → with_pipeline p (empty_state (p ∷ []) 1) ≡ state_of 0 (p ∷ []) 0 []
-pipeline_there p = rw (name_itself p) refl
+-- the pipeline is the first one
+pipeline_there : (p : List ℕ) → with_pipeline p (empty_state 1) ≡ state_of 0 (p ∷ []) 0 []
+pipeline_there p = refl
 
-pipeline_first : (p : List ℕ) → pipeline_index p (empty_state (p ∷ []) 1) ≡ 0
-pipeline_first p = rw (name_itself p) refl
+pipeline_first : (p : List ℕ) → pipeline_index p (empty_state 1) ≡ 0
+pipeline_first p = refl
 
-commits : (p : List ℕ) (ts : Table ℕ) (f : WorkUnit → ℕ) → Rising (names_of ts)
-    → committed (empty_state (p ∷ []) 1) p (judged f ts) (judged f ts) ≡ state_of 1 (p ∷ []) (total_of (map f (map whole ts))) (map doing ts)
+commits : (p : List ℕ) (ts : Table ℕ) (f : WorkUnit → ℕ) → IsInByteOrder (names_of ts)
+    → state_with_commit (empty_state 1) p (judged f ts) (judged f ts) ≡ state_of 1 (p ∷ []) (total_of (map f (map whole ts))) (map doing ts)
 commits p ts f rising =
     let total : ℕ = total_of (map f (map whole ts)) in
     let bound : total ≤ 2 ^ 64 - 1 = total_small (map f (map whole ts)) in
-    let same : capped (0 + total) ≡ total = omega arith in
-    ap (λ i. record (fold_units (finish_unit i) (fold_units add_unit (with_pipeline p (empty_state (p ∷ []) 1)) (judged f ts)) (judged f ts)) { run = 1 }) (pipeline_first p)
+    let same : saturate_u64 (0 + total) ≡ total = omega arith in
+    ap (λ i. record (fold_units (finish_unit i) (fold_units add_unit (with_pipeline p (empty_state 1)) (judged f ts)) (judged f ts)) { run = 1 }) (pipeline_first p)
     ∙ ap (λ s. record (fold_units (finish_unit 0) (fold_units add_unit s (judged f ts)) (judged f ts)) { run = 1 }) (pipeline_there p)
     ∙ ap (λ s. record (fold_units (finish_unit 0) s (judged f ts)) { run = 1 }) (add_all 0 (p ∷ []) 0 [] ts f (stands_none ts) rising)
     ∙ ap (λ (s : State). record s { run = 1 }) (finish_all 0 (p ∷ []) 0 [] ts f (omega arith) (stands_none ts) rising)
@@ -265,21 +266,26 @@ abbrev pub kept_of : List ℕ → Table ℕ → (WorkUnit → ℕ) → Option St
 kept_of p [] f = None
 kept_of p (t ∷ ts) f = Some (state_of 1 (p ∷ []) (total_of (map f (map whole (t ∷ ts)))) (map doing (t ∷ ts)))
 
-kept_tops : (p : List ℕ) (ts : Table ℕ) (f : WorkUnit → ℕ) → Rising (names_of ts)
-    → stored_where None (next_state (empty_state (p ∷ []) 1) p (map whole ts) (map good_lines (map f (map whole ts))) Full) (allowed_units Full (judged f ts)) ≡ kept_of p ts f
+-- a list of pairs, from its two sides
+zip_parts : (js : List Judged) → zip (group_units js) (group_verdicts js) ≡ js
+zip_parts [] = refl
+zip_parts (j ∷ js) = ap (λ ks. j ∷ ks) (zip_parts js)
+
+abbrev kept_from : List ℕ → List Judged → Option State
+kept_from p js = stored_where None (next_state (empty_state 1) p (group_units js) (group_verdicts js) Full) (allowed_units Full js)
+
+kept_tops : (p : List ℕ) (ts : Table ℕ) (f : WorkUnit → ℕ) → IsInByteOrder (names_of ts) → kept_from p (judged f ts) ≡ kept_of p ts f
 unfolding next_state
 kept_tops p [] f rising = refl
 kept_tops p (t ∷ ts) f rising =
-    ap (λ ds. stored_where None (committed_or (empty_state (p ∷ []) 1) p (judged f (t ∷ ts)) ds) ds) (all_allowed f (t ∷ ts))
+    let js = judged f (t ∷ ts) in
+    ap (λ ks. stored_where None (state_with_commit_or (empty_state 1) p ks (allowed_units Full ks)) (allowed_units Full js)) (zip_parts js)
+    ∙ ap (λ ds. stored_where None (state_with_commit_or (empty_state 1) p js ds) ds) (all_allowed f (t ∷ ts))
     ∙ ap (λ (s : State). Some s) (commits p (t ∷ ts) f rising)
 
-pub kept_units : (p : List ℕ) (us : List WorkUnit) (vs : List Verdict) (ts : Table ℕ) (f : WorkUnit → ℕ) → us ≡ map whole ts → vs ≡ map good_lines (map f us) → Rising (names_of ts)
-    → stored_where None (next_state (empty_state (p ∷ []) 1) p us vs Full) (allowed_units Full (zip us vs)) ≡ kept_of p ts f
-kept_units p us vs ts f are judge rising =
-    let verdicts : vs ≡ map good_lines (map f (map whole ts)) = judge ∙ ap (λ (xs : List WorkUnit). map good_lines (map f xs)) are in
-    ap (λ xs. stored_where None (next_state (empty_state (p ∷ []) 1) p xs vs Full) (allowed_units Full (zip xs vs))) are
-    ∙ ap (λ ws. stored_where None (next_state (empty_state (p ∷ []) 1) p (map whole ts) ws Full) (allowed_units Full (zip (map whole ts) ws))) verdicts
-    ∙ kept_tops p ts f rising
+pub judged_are : (us : List WorkUnit) (vs : List Verdict) (ts : Table ℕ) (f : WorkUnit → ℕ) → us ≡ map whole ts → vs ≡ map good_lines (map f us) → zip us vs ≡ judged f ts
+judged_are us vs ts f are judge =
+    ap (λ ws. zip us ws) judge ∙ ap (λ xs. zip xs (map good_lines (map f xs))) are
 
 pub marked : (ts : Table ℕ) → map doing ts ≡ map (λ v. (v.part, done_to v.hi)) (map whole ts)
 marked [] = refl
@@ -303,9 +309,11 @@ units-tops held listed few = units-flat held listed few ∙ flat_tops held
 
 pub after-plain : (job : List ℕ) (held : Held) → IsListed (listing_of held) → AllPlain held → (few : length held ≤ 2 ^ 63)
     → state_after (plain_job job) held [] None ≡ kept_first (plain_units held) (numbers_of held)
+unfolding groups_of
 after-plain job held listed plain few =
     let f = λ (u : WorkUnit). line_number (unit_bytes held u) in
-    kept_units plain_pipeline (plain_units held) (run_verdicts (plain_job job) held [] None) (tops held) f (units-tops held listed few) (verdicts-plain job held listed plain) (tops_rising held listed.rising)
+    ap (kept_from plain_pipeline) (judged_are (plain_units held) (run_verdicts (plain_job job) held [] None) (tops held) f (units-tops held listed few) (verdicts-plain job held listed plain))
+    ∙ kept_tops plain_pipeline (tops held) f (tops_rising held listed.rising)
     ∙ kept_is_first (plain_units held) (tops held) f (units-tops held listed few)
 
 or_empty : (job : List ℕ) (us : List WorkUnit) (numbers : List ℕ) → state_or_empty (plain_job job) (kept_first us numbers) ≡ first_state us numbers

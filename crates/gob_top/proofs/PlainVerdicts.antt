@@ -4,16 +4,16 @@ use Rattle.std.specs.List.{AllByRecursion, enumerate_from, list_all, slice_get}
 use Rattle.std.specs.Str.{is_utf8}
 use Rattle.std.proofs.lemmas.Bool.{cond-false, cond_both, and_parts, not-true, true≢false}
 use Rattle.gob_bytes.specs.Lines.{lines, lines_from, ends_in_lf}
-use Rattle.gob_device.specs.Supply.{Held, IsListed, listing_of, bytes_at, given}
+use Rattle.gob_device.specs.Supply.{Held, IsListed, listing_of, bytes_at, bytes_from}
 use Rattle.gob_plan.specs.declared.plan.Plan.{Plan}
 use Rattle.gob_plan.specs.declared.units.Cause.TheVariants.{Fault}
 use Rattle.gob_plan.specs.declared.units.Unit.{Unit as WorkUnit}
-use Rattle.gob_meaning.specs.Fold.{capped}
+use Rattle.gob_meaning.specs.Fold.{saturate_u64}
 use Rattle.gob_meaning.specs.Job.{Job, plain_job, plain_plan}
 use Rattle.gob_meaning.specs.Laws.{all_written, has_crlf}
 use Rattle.gob_meaning.specs.Results.{good, failed, verdict_of}
 use Rattle.gob_meaning.proofs.PlainLines.{plain_unit}
-use Rattle.gob_ledger.specs.Turns.{Waiting, Turn, gave_up, place_at, replace_at, then_turns, turns_from, turns_of, verdicts_of, waiting_at_first}
+use Rattle.gob_ledger.specs.Turns.{Waiting, TakenTurn, gave_up, place_at, replace_at, then_turns, turns_from, turns_of, verdicts_of, waiting_at_first}
 use Rattle.gob_history.specs.Runs.{run_verdicts}
 use Rattle.gob_top.specs.Runs.{is_plain_text}
 use Rattle.gob_top.specs.Plain.{plain_units, unit_bytes, line_number, good_lines}
@@ -21,7 +21,7 @@ use Rattle.gob_top.proofs.PlainUnits.{AllPlain, numbers_of, IsWhole, units-whole
 
 -- ---- no turn fails
 
-none_then : (job : Job) (o : Option Waiting) (later : List Waiting → List Turn) (n : ℕ) → ((ws : List Waiting) → gave_up (later ws) n ≡ false) → gave_up (then_turns job false o later) n ≡ false
+none_then : (job : Job) (o : Option Waiting) (later : List Waiting → List TakenTurn) (n : ℕ) → ((ws : List Waiting) → gave_up (later ws) n ≡ false) → gave_up (then_turns job false o later) n ≡ false
 none_then job None later n none = refl
 none_then job (Some w) later n none = none _
 
@@ -46,8 +46,8 @@ few_lines (b ∷ bs) start begun =
     (λ _. let later = few_lines bs (start + length begun + 1) [] in omega arith)
     (λ _. let later = few_lines bs start (begun ++ b ∷ []) in omega arith)
 
-few_given : (held : Held) (part : List ℕ) (at' len : ℕ) → length (given held part at' len) ≤ len
-unfolding given
+few_given : (held : Held) (part : List ℕ) (at' len : ℕ) → length (bytes_from held part at' len) ≤ len
+unfolding bytes_from
 few_given held part at' len = let taken = length-take len (drop at' (bytes_at held part)) in omega arith
 
 and_three : (x y z : Bool) → (x && y && z) ≡ true → (x ≡ true) × (y ≡ true) × (z ≡ true)
@@ -56,7 +56,7 @@ and_three true true false all = absurd (true≢false (sym all))
 and_three true false z all = absurd (true≢false (sym all))
 and_three false y z all = absurd (true≢false (sym all))
 
-not_capped : (n : ℕ) → n ≤ 2 ^ 63 - 1 → capped n ≡ n
+not_capped : (n : ℕ) → n ≤ 2 ^ 63 - 1 → saturate_u64 n ≡ n
 not_capped n small = omega arith
 
 plain_verdict : (u : WorkUnit) (bytes : List ℕ) → u.listed ≡ true → length bytes ≤ 2 ^ 63 - 1 → is_plain_text bytes ≡ true → verdict_of plain_plan u bytes ≡ good_lines (line_number bytes)
@@ -68,8 +68,8 @@ plain_verdict u bytes listed small plain =
 
 -- ---- all units
 
-all_good : (plan : Plan) (held : Held) (turns : List Turn) → plan ≡ plain_plan → ((n : ℕ) → gave_up turns n ≡ false) → (n : ℕ) (us : List WorkUnit) → AllByRecursion IsWhole us → list_all (λ u. is_plain_text (unit_bytes held u)) us ≡ true
-    → map (λ e. cond (gave_up turns e.0) (failed Fault) (verdict_of plan e.1 (given held e.1.part e.1.lo (e.1.hi - e.1.lo)))) (enumerate_from n us) ≡ map good_lines (map (λ u. line_number (unit_bytes held u)) us)
+all_good : (plan : Plan) (held : Held) (turns : List TakenTurn) → plan ≡ plain_plan → ((n : ℕ) → gave_up turns n ≡ false) → (n : ℕ) (us : List WorkUnit) → AllByRecursion IsWhole us → list_all (λ u. is_plain_text (unit_bytes held u)) us ≡ true
+    → map (λ e. cond (gave_up turns e.0) (failed Fault) (verdict_of plan e.1 (bytes_from held e.1.part e.1.lo (e.1.hi - e.1.lo)))) (enumerate_from n us) ≡ map good_lines (map (λ u. line_number (unit_bytes held u)) us)
 all_good plan held turns same none n [] whole plain = refl
 all_good plan held turns same none n (u ∷ us) whole plain =
     let parts = and_parts (is_plain_text (unit_bytes held u)) (list_all (λ v. is_plain_text (unit_bytes held v)) us) plain in

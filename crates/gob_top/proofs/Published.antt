@@ -4,7 +4,7 @@ use Rattle.std.specs.declared.option.Option.{Option}
 use Rattle.gob_bytes.specs.Paths.{begins_with, state_name, under}
 use Rattle.gob_device.specs.Disk.{Along, Disk, Files, clean, put}
 use Rattle.gob_plan.specs.declared.units.Unit.{Unit as WorkUnit}
-use Rattle.gob_ledger.specs.Spelling.{state_text}
+use Rattle.gob_ledger.specs.Spelling.{state_spelling, version_1}
 use Rattle.gob_ledger.specs.State.{State}
 use Rattle.gob_top.specs.declared.input.Input.{Input}
 use Rattle.gob_top.specs.Inputs.{KeepsState, after_inputs, contents_in, numbers_in, state_in, units_in, with_inputs}
@@ -76,11 +76,11 @@ units_again : (is : List Input) → map (λ q. q.0) (contents_in is) ≡ units_i
 units_again [] = refl
 units_again (i ∷ is) = ap (λ us. i.unit ∷ us) (units_again is)
 
-pub after-inputs-some : (job : List ℕ) (is : List Input) (m : Files) → (is ≡ [] → ⊥) → after_inputs job is m ≡ put (with_inputs job is m) (state_name job) (Some (clean (state_text (state_in is))))
+pub after-inputs-some : (job : List ℕ) (is : List Input) (m : Files) → (is ≡ [] → ⊥) → after_inputs job is m ≡ put (with_inputs job is m) (state_name job) (Some (clean (state_spelling version_1 (state_in is))))
 unfolding after_inputs with_inputs state_in
 after-inputs-some job [] m some = absurd (some refl)
 after-inputs-some job (i ∷ is) m some =
-    ap (λ us. put (with_units_of job (i ∷ is) m) (state_name job) (Some (clean (state_text (first_of us (i ∷ is)))))) (units_again (i ∷ is))
+    ap (λ us. put (with_units_of job (i ∷ is) m) (state_name job) (Some (clean (state_spelling version_1 (first_of us (i ∷ is)))))) (units_again (i ∷ is))
   where
     with_units_of : List ℕ → List Input → Files → Files
     with_units_of job is m = with_units job (contents_in is) m

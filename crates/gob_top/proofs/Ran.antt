@@ -14,9 +14,9 @@ use Rattle.gob_plan.specs.declared.plan.CommitPolicy.TheVariants.{Full}
 use Rattle.gob_plan.specs.declared.units.Unit.{Unit as WorkUnit}
 use Rattle.gob_meaning.specs.Job.{plain_file, plain_job}
 use Rattle.gob_ledger.specs.Next.{Judged, is_good}
-use Rattle.gob_ledger.specs.Spelling.{state_text}
+use Rattle.gob_ledger.specs.Spelling.{state_spelling, version_1}
 use Rattle.gob_history.specs.Runs.{RunLeft, run_verdicts, state_after, state_or_empty}
-use Rattle.gob_texts.specs.Report.{report_of, run_status}
+use Rattle.gob_texts.specs.Report.{run_status}
 use Rattle.gob_top.specs.declared.answer.Report.{Report}
 use Rattle.gob_top.specs.declared.answer.Refusal.{Refusal}
 use Rattle.gob_top.specs.declared.answer.Refusal.TheVariants.{Usage, NoJob, NotBuilt, NotBuiltState, NotBuiltInput, SourceFault, VolumeFault, Memory}
@@ -26,7 +26,7 @@ use Rattle.gob_top.proofs.Order.{state_last}
 use Rattle.gob_bytes.proofs.Tables.{two_names}
 use Rattle.gob_top.specs.Inputs.{PublishedFirst, with_inputs, after_inputs, contents_in, judged_in, numbers_in, state_in, units_in}
 use Rattle.gob_top.specs.Plain.{IsWhole, StoppedByPulls, StoppedBySource, StoppedByVolume, StoppedByWriting, after_first, first_state, good_lines, line_number, plain_units, unit_bytes, unit_name, whole_pull, with_units}
-use Rattle.gob_top.specs.Runs.{Due, IsDone, IsRefused, Lasting, OnlyBelow, RunAnswered, Yields, input_refusal, is_plain_text, text_refusal, volume_refusal}
+use Rattle.gob_top.specs.Runs.{Due, IsDone, IsRefused, Lasting, OnlyBelow, RunAnswered, Yields, input_refusal, is_plain_text, text_refusal, volume_refusal, plain_report}
 use Rattle.gob_top.specs.World.{World}
 use Rattle.gob_top.proofs.PlainLeft.{left-plain}
 use Rattle.gob_top.proofs.PlainPulls.{pulls-plain}
@@ -104,7 +104,7 @@ abbrev pub world : Option Supply → ℕ → ℕ → Option Disk → ℕ → Wor
 world supply sf pf disk vf = record { supply = supply; source_faults = sf; plan_faults = pf; disk = disk; volume_faults = vf }
 
 abbrev pub same_disk : (job : List ℕ) (disk disk' : Option Disk) → disk' ≡ disk → Along (OnlyBelow (under job [])) disk disk'
-same_disk job disk disk' e = subst (λ (o : Option Disk). Along (OnlyBelow (under job [])) disk o) (sym e) (along_nothing (OnlyBelow (under job [])) (below_same (under job [])) disk)
+same_disk job disk disk' e = subst (λ (o : Option Disk). Along (OnlyBelow (under job [])) disk o) (sym e) (along_nothing (OnlyBelow (under job [])) disk)
 
 -- by the check of the volume
 pub stopped_by_volume : (job : List ℕ) (supply : Option Supply) (sf pf : ℕ) (disk disk' : Option Disk) (vf vf' : ℕ) (r : Refusal) → StoppedByVolume job disk vf vf' r → disk' ≡ disk → vf ≤ vf'
@@ -281,7 +281,7 @@ after-inputs-first : (job : List ℕ) (inputs : List Input) (m : Files) → numb
 unfolding after_inputs
 after-inputs-first job [] m e = refl
 after-inputs-first job (i ∷ is) m e =
-    λ k. put (with_units job (zipped (i ∷ is) k) m) (state_name job) (Some (clean (state_text (first_state (units_back (i ∷ is) k) (e k)))))
+    λ k. put (with_units job (zipped (i ∷ is) k) m) (state_name job) (Some (clean (state_spelling version_1 (first_state (units_back (i ∷ is) k) (e k)))))
 
 -- of what both devices tell
 pub record Reported (job : List ℕ) (inputs : List Input) (report : Report) (held : Held) (m : Files) : Type 0 where
@@ -293,23 +293,8 @@ pub record Reported (job : List ℕ) (inputs : List Input) (report : Report) (he
   pub bytes : map (λ i. i.bytes) inputs ≡ map (unit_bytes held) (units_in inputs)
   pub plain : list_all (λ i. is_plain_text i.bytes) inputs ≡ true
   pub lines : numbers_in inputs ≡ map (λ i. line_number i.bytes) inputs
-  pub text : report.text ≡ report_of job Full [] (judged_in inputs) (state_in inputs)
+  pub text : report.text ≡ plain_report job (judged_in inputs) (state_in inputs)
   pub status : report.status ≡ 0
-
-state_absent : (o : Option File) → cond (is_some o) (Some NotBuiltState) None ≡ None → option_map contents_of o ≡ None
-state_absent None h = refl
-state_absent (Some f) h = absurd (cc h)
-
-text_plain : (b : Bool) (o : Option File) → cond b (cond (is_some o) (Some NotBuiltState) None) (Some NotBuilt) ≡ None → option_map contents_of o ≡ None
-text_plain true o h = state_absent o h
-text_plain false o h = absurd (cc h)
-
-text_there : (job : List ℕ) (m : Files) (text : Option (List ℕ)) → text_refusal job m text ≡ None → contents_at m (state_name job) ≡ None
-text_there job m None h = absurd (cc h)
-text_there job m (Some t) h = text_plain (bytes_eq t plain_file) (m (state_name job)) h
-
-no_state : (job : List ℕ) (m : Files) → volume_refusal job m ≡ None → contents_at m (state_name job) ≡ None
-no_state job m e = text_there job m (contents_at m (job_file job)) e
 
 plain_held : (inputs : List Input) (held : Held) → units_in inputs ≡ plain_units held → map (λ i. i.bytes) inputs ≡ map (unit_bytes held) (units_in inputs) → list_all (λ i. is_plain_text i.bytes) inputs ≡ true → AllPlain held
 plain_held inputs held units bytes plain =
@@ -349,7 +334,7 @@ after-inputs-other : (job : List ℕ) (inputs : List Input) (m : Files) (name : 
 unfolding after_inputs with_inputs
 after-inputs-other job [] m name apart = refl
 after-inputs-other job (i ∷ is) m name apart =
-    ap (λ b. cond b (Some (clean (state_text (first_state (map (λ q. q.0) (contents_in (i ∷ is))) (numbers_in (i ∷ is)))))) (with_units job (contents_in (i ∷ is)) m name)) (two_names name (state_name job) apart)
+    ap (λ b. cond b (Some (clean (state_spelling version_1 (first_state (map (λ q. q.0) (contents_in (i ∷ is))) (numbers_in (i ∷ is)))))) (with_units job (contents_in (i ∷ is)) m name)) (two_names name (state_name job) apart)
 
 inputs_last : (job : List ℕ) (inputs : List Input) (m : Files) → Lasting m (after_inputs job inputs m)
 unfolding after_inputs
@@ -364,13 +349,13 @@ is_done job inputs report d s e t r files order pulled =
     let numbers = numbers_held job inputs report s.held d.files r in
     let verdicts = verdicts-plain job s.held r.listed plain in
     record {
-      left = subst (λ m. RunLeft (plain_job job) s.held d.files None [] m)
+      left = λ nothing. subst (λ m. RunLeft (plain_job job) s.held d.files None [] m)
           (sym (files ∙ (after-inputs-first job inputs d.files (r.lines ∙ numbered_lines inputs) ∙ (λ k. after_first job (r.units k) ((r.bytes ∙ ap (map (unit_bytes s.held)) r.units) k) d.files))))
-          (left-plain job s.held d.files r.listed plain r.few (subst (λ us. All (λ u. IsUtf8 u.part) us) r.units r.texts) (no_state job d.files r.none));
+          (left-plain job s.held d.files r.listed plain r.few (subst (λ us. All (λ u. IsUtf8 u.part) us) r.units r.texts) nothing);
       order = state_last job inputs d e (λ name apart. ap (λ (m : Files). m name) files ∙ after-inputs-other job inputs d.files name apart) order;
       lasting = subst (λ m. Lasting d.files m) (sym files) (inputs_last job inputs d.files);
-      text = r.text ∙ (ap (λ js. report_of job Full [] js (state_in inputs)) (judged_zip inputs ∙ (λ k. zip (r.units k) ((ap (map good_lines) numbers ∙ sym verdicts) k)))
-          ∙ ap (λ st. report_of job Full [] (zip (plain_units s.held) (run_verdicts (plain_job job) s.held [] None)) st) (state_same job inputs report s.held d.files r plain numbers));
+      text = r.text ∙ (ap (λ js. plain_report job js (state_in inputs)) (judged_zip inputs ∙ (λ k. zip (r.units k) ((ap (map good_lines) numbers ∙ sym verdicts) k)))
+          ∙ ap (λ st. plain_report job (zip (plain_units s.held) (run_verdicts (plain_job job) s.held [] None)) st) (state_same job inputs report s.held d.files r plain numbers));
       status = r.status ∙ sym (ap run_status verdicts ∙ good_status (numbers_of s.held));
       pulls = pulled ∙ ap (λ ps. with_pulls ps s) (ap (map whole_pull) r.units ∙ sym (pulls-plain job s.held r.listed plain));
     }
@@ -395,7 +380,7 @@ pub reported : (job : List ℕ) (inputs : List Input) (report : Report) (units :
     → IfSome supply (λ s. IsListed (listing_of s.held)) → IfSome supply (λ s. length s.held ≤ 2 ^ 63) → IfSome disk (λ d. volume_refusal job d.files ≡ None)
     → IfSome supply (λ s. units ≡ plain_units s.held) → units_in inputs ≡ units → All (λ u. IsUtf8 u.part) units
     → IfSome supply (λ s. map (λ i. i.bytes) inputs ≡ map (unit_bytes s.held) units) → list_all (λ i. is_plain_text i.bytes) inputs ≡ true
-    → numbers_in inputs ≡ map (λ i. line_number i.bytes) inputs → report.text ≡ report_of job Full [] (judged_in inputs) (state_in inputs) → report.status ≡ 0
+    → numbers_in inputs ≡ map (λ i. line_number i.bytes) inputs → report.text ≡ plain_report job (judged_in inputs) (state_in inputs) → report.status ≡ 0
     → supply' ≡ option_map (with_pulls (map whole_pull units)) supply → option_map (λ e. e.files) disk' ≡ option_map (λ d. after_inputs job inputs d.files) disk
     → Along (PublishedFirst job inputs) disk disk' → Along (OnlyBelow (under job [])) disk disk' → sf ≤ sf' → pf ≤ pf' → vf ≤ vf'
     → RunAnswered job (world supply sf pf disk vf) (world supply' sf' pf' disk' vf') (Ok report)

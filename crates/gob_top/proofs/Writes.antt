@@ -5,7 +5,7 @@ use Rattle.std.specs.declared.result.Result.{Result}
 use Rattle.std.specs.Str.{bytes_eq}
 use Rattle.gob_bytes.specs.Paths.{begins_with}
 use Rattle.gob_bytes.proofs.Tables.{name_itself, two_names}
-use Rattle.gob_device.specs.Disk.{Along, Changes, Disk, File, Files, OnlyAt, Torn, Whole, appended, changed, clean, created, kept_whole, put, synced, with_more}
+use Rattle.gob_device.specs.Disk.{Along, Changes, Disk, File, Files, OnlyAt, Torn, Whole, after_append, after_change, clean, after_create, synced_file, put, after_sync, with_more}
 use Rattle.gob_device.proofs.Trail.{along_change, along_map}
 use Rattle.gob_top.specs.Runs.{OnlyBelow}
 
@@ -19,23 +19,23 @@ put_put_at false x y z = refl
 put_put : (m : Files) (name : List ℕ) (f g : Option File) → put (put m name f) name g ≡ put m name g
 put_put m name f g = λ i q. put_put_at (bytes_eq q name) g f (m q) i
 
-fresh_whole : (bytes : List ℕ) → kept_whole (with_more bytes (clean [])) ≡ clean bytes
+fresh_whole : (bytes : List ℕ) → synced_file (with_more bytes (clean [])) ≡ clean bytes
 fresh_whole [] = refl
 fresh_whole (b ∷ bs) = refl
 
-written : (m : Files) (name bytes : List ℕ) → synced name (appended name bytes (created name m)) ≡ put m name (Some (clean bytes))
-unfolding synced appended created
+written : (m : Files) (name bytes : List ℕ) → after_sync name (after_append name bytes (after_create name m)) ≡ put m name (Some (clean bytes))
+unfolding after_sync after_append after_create
 written m name bytes =
     let one = put m name (Some (clean [])) in
     let more = option_map (with_more bytes) (one name) in
     let e : more ≡ Some (with_more bytes (clean [])) = ap (λ o. option_map (with_more bytes) o) (put_here m name (Some (clean []))) in
-    let w : option_map kept_whole (put one name more name) ≡ Some (clean bytes) =
-    ap (λ o. option_map kept_whole o) (put_here one name more ∙ e) ∙ ap (λ f. Some f) (fresh_whole bytes) in
+    let w : option_map synced_file (put one name more name) ≡ Some (clean bytes) =
+    ap (λ o. option_map synced_file o) (put_here one name more ∙ e) ∙ ap (λ f. Some f) (fresh_whole bytes) in
     ap (λ o. put (put one name more) name o) w ∙ (put_put one name more (Some (clean bytes)) ∙ put_put m name (Some (clean [])) (Some (clean bytes)))
 
 -- create, append and sync leave a clean file with these bytes
 pub files_written : (o : Option Disk) (name bytes : List ℕ)
-    → option_map (λ e. e.files) (option_map (changed (synced name)) (option_map (changed (appended name bytes)) (option_map (changed (created name)) o)))
+    → option_map (λ e. e.files) (option_map (after_change (after_sync name)) (option_map (after_change (after_append name bytes)) (option_map (after_change (after_create name)) o)))
     ≡ option_map (λ d. put d.files name (Some (clean bytes))) o
 files_written None name bytes = refl
 files_written (Some d) name bytes = ap (λ m. Some m) (written d.files name bytes)
@@ -43,8 +43,8 @@ files_written (Some d) name bytes = ap (λ m. Some m) (written d.files name byte
 is_there : (o : Option File) (f : File) → o ≡ Some f → IsSome o
 is_there o f e = ap (λ x. is_some x) e
 
-pub there_created : (o : Option Disk) (name : List ℕ) → IfSome (option_map (changed (created name)) o) (λ d. IsSome (d.files name))
-unfolding created
+pub there_created : (o : Option Disk) (name : List ℕ) → IfSome (option_map (after_change (after_create name)) o) (λ d. IsSome (d.files name))
+unfolding after_create
 there_created None name = tt
 there_created (Some d) name = is_there _ (clean []) (put_here d.files name (Some (clean [])))
 
@@ -52,8 +52,8 @@ there_more : (bytes : List ℕ) (o : Option File) → IsSome o → IsSome (optio
 there_more bytes None e = e
 there_more bytes (Some f) e = refl
 
-pub there_appended : (o : Option Disk) (name bytes : List ℕ) → IfSome o (λ d. IsSome (d.files name)) → IfSome (option_map (changed (appended name bytes)) o) (λ d. IsSome (d.files name))
-unfolding appended
+pub there_appended : (o : Option Disk) (name bytes : List ℕ) → IfSome o (λ d. IsSome (d.files name)) → IfSome (option_map (after_change (after_append name bytes)) o) (λ d. IsSome (d.files name))
+unfolding after_append
 there_appended None name bytes h = tt
 there_appended (Some d) name bytes h = subst (λ (o : Option File). IsSome o) (sym (put_here d.files name (option_map (with_more bytes) (d.files name)))) (there_more bytes (d.files name) h)
 
@@ -70,26 +70,26 @@ whole_only name step only m n w = ⊎_elim
     (λ e other apart. ap (λ (f : Files). f other) e)
     (λ e other apart. ap (λ (f : Files). f other) e ∙ only m other apart) w
 
-created_step : (name : List ℕ) (m : Files) → OnlyAt name m (created name m)
-unfolding created
+created_step : (name : List ℕ) (m : Files) → OnlyAt name m (after_create name m)
+unfolding after_create
 created_step name m = only_put m name (Some (clean []))
 
-pub created_only : {T E : Type 0} (name : List ℕ) (old new : Option Disk) (result : Result T E) → Changes (created name) (Whole (created name)) old new result → Along (OnlyAt name) old new
-created_only name old new result c = along_change (OnlyAt name) (created name) (Whole (created name)) old new result (created_step name) (whole_only name (created name) (created_step name)) c
+pub created_only : {T E : Type 0} (name : List ℕ) (old new : Option Disk) (result : Result T E) → Changes (after_create name) (Whole (after_create name)) old new result → Along (OnlyAt name) old new
+created_only name old new result c = along_change (OnlyAt name) (created_step name) (whole_only name (after_create name) (created_step name)) c
 
-appended_step : (name bytes : List ℕ) (m : Files) → OnlyAt name m (appended name bytes m)
-unfolding appended
+appended_step : (name bytes : List ℕ) (m : Files) → OnlyAt name m (after_append name bytes m)
+unfolding after_append
 appended_step name bytes m = only_put m name (option_map (with_more bytes) (m name))
 
-pub appended_only : {T E : Type 0} (name bytes : List ℕ) (old new : Option Disk) (result : Result T E) → Changes (appended name bytes) (Torn name (appended name bytes)) old new result → Along (OnlyAt name) old new
-appended_only name bytes old new result c = along_change (OnlyAt name) (appended name bytes) (Torn name (appended name bytes)) old new result (appended_step name bytes) (λ m n t. t.others) c
+pub appended_only : {T E : Type 0} (name bytes : List ℕ) (old new : Option Disk) (result : Result T E) → Changes (after_append name bytes) (Torn name (after_append name bytes)) old new result → Along (OnlyAt name) old new
+appended_only name bytes old new result c = along_change (OnlyAt name) (appended_step name bytes) (λ m n t. t.others) c
 
-synced_step : (name : List ℕ) (m : Files) → OnlyAt name m (synced name m)
-unfolding synced
-synced_step name m = only_put m name (option_map kept_whole (m name))
+synced_step : (name : List ℕ) (m : Files) → OnlyAt name m (after_sync name m)
+unfolding after_sync
+synced_step name m = only_put m name (option_map synced_file (m name))
 
-pub synced_only : {T E : Type 0} (name : List ℕ) (old new : Option Disk) (result : Result T E) → Changes (synced name) (Torn name (synced name)) old new result → Along (OnlyAt name) old new
-synced_only name old new result c = along_change (OnlyAt name) (synced name) (Torn name (synced name)) old new result (synced_step name) (λ m n t. t.others) c
+pub synced_only : {T E : Type 0} (name : List ℕ) (old new : Option Disk) (result : Result T E) → Changes (after_sync name) (Torn name (after_sync name)) old new result → Along (OnlyAt name) old new
+synced_only name old new result c = along_change (OnlyAt name) (synced_step name) (λ m n t. t.others) c
 
 -- ---- and so nothing but what is below the folder
 
@@ -106,7 +106,7 @@ no_below folder x y out in_ e = true-false (sym in_ ∙ (ap (λ n. begins_with f
     true-false p = cc
 
 pub below_at : (folder name : List ℕ) (old new : Option Disk) → begins_with folder name ≡ true → Along (OnlyAt name) old new → Along (OnlyBelow folder) old new
-below_at folder name old new h a = along_map (OnlyAt name) (OnlyBelow folder) old new (λ m n only other out. only other (no_below folder other name out h)) a
+below_at folder name old new h a = along_map (OnlyAt name) (OnlyBelow folder) (λ m n only other out. only other (no_below folder other name out h)) a
 
 -- one change of the files after another
 pub files_then : (F G : Files → Files) (old mid new : Option Disk) → option_map (λ e. e.files) mid ≡ option_map (λ d. F d.files) old → option_map (λ e. e.files) new ≡ option_map (λ d. G d.files) mid

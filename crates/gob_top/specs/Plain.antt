@@ -1,5 +1,5 @@
 -- The plain run, step by step: what each part of it hands to the next.
-use Rattle.std.specs.Prelude.{◌≡◌, ℕ, ◌+◌, ◌<◌, Bool, true, false, is_some, List, [], ◌∷◌, map, length, IfSome, ◌-◌}
+use Rattle.std.specs.Prelude.{◌≡◌, ◌≢◌, ℕ, ◌+◌, ◌<◌, Bool, true, false, is_some, List, [], ◌∷◌, map, length, IfSome, ◌-◌}
 use Rattle.std.specs.declared.option.Option.{Option}
 use Rattle.std.specs.declared.option.Option.TheVariants.{None, Some}
 use Rattle.std.specs.List.{list_all, zip}
@@ -9,7 +9,7 @@ use Rattle.gob_device.specs.Causes.{Rose}
 use Rattle.gob_device.specs.Disk.{Disk, Files, clean, put}
 use Rattle.gob_device.specs.Supply.{Held, Supply, Pull}
 use Rattle.gob_plan.specs.declared.units.Unit.{Unit as WorkUnit}
-use Rattle.gob_meaning.specs.Fold.{capped}
+use Rattle.gob_meaning.specs.Fold.{saturate_u64}
 use Rattle.gob_meaning.specs.Items.{out}
 use Rattle.gob_meaning.specs.Job.{plain_job, plain_pipeline, plain_plan}
 use Rattle.gob_meaning.specs.Laws.{all_written}
@@ -17,7 +17,7 @@ use Rattle.gob_meaning.specs.Names.{target_name}
 use Rattle.gob_meaning.specs.Results.{Verdict, good}
 use Rattle.gob_ledger.specs.Expected.{bytes_in}
 use Rattle.gob_ledger.specs.Marks.{Marks}
-use Rattle.gob_ledger.specs.Spelling.{state_text}
+use Rattle.gob_ledger.specs.Spelling.{state_spelling, version_1}
 use Rattle.gob_ledger.specs.State.{State, empty_state}
 use Rattle.gob_ledger.specs.Units.{span_of}
 use Rattle.gob_history.specs.Runs.{run_units}
@@ -48,7 +48,7 @@ good_lines n = good (all_written n) []
 -- counts of lines, added up to the end of a u64
 abbrev pub total_of : List ℕ → ℕ
 total_of [] = 0
-total_of (n ∷ ns) = capped (n + total_of ns)
+total_of (n ∷ ns) = saturate_u64 (n + total_of ns)
 
 -- all of a partition up to here is done
 abbrev pub done_to : ℕ → Marks
@@ -56,7 +56,7 @@ done_to hi = record { next = hi; finished = record { span = record { lo = 0; hi 
 
 -- the state after a first run over these units of so many lines
 abbrev pub first_state : List WorkUnit → List ℕ → State
-first_state [] numbers = empty_state (plain_pipeline ∷ []) 1
+first_state [] numbers = empty_state 1
 first_state (u ∷ us) numbers = record {
   run = 1;
   pipelines = plain_pipeline ∷ [];
@@ -76,15 +76,16 @@ with_units job (p ∷ ps) m = with_units job ps (put m (unit_name job p.0) (Some
 -- nothing is written without a unit
 abbrev pub after_writing : List ℕ → List (WorkUnit × List ℕ) → List ℕ → Files → Files
 after_writing job [] numbers m = m
-after_writing job (p ∷ ps) numbers m = put (with_units job (p ∷ ps) m) (state_name job) (Some (clean (state_text (first_state (map (λ q. q.0) (p ∷ ps)) numbers))))
+after_writing job (p ∷ ps) numbers m = put (with_units job (p ∷ ps) m) (state_name job) (Some (clean (state_spelling version_1 (first_state (map (λ q. q.0) (p ∷ ps)) numbers))))
 
 -- the same of units and what they hold
 abbrev pub after_first : List ℕ → List WorkUnit → List (List ℕ) → Files → Files
 after_first job [] contents m = m
-after_first job (u ∷ us) contents m = put (with_units job (zip (u ∷ us) contents) m) (state_name job) (Some (clean (state_text (first_state (u ∷ us) (map line_number contents)))))
+after_first job (u ∷ us) contents m = put (with_units job (zip (u ∷ us) contents) m) (state_name job) (Some (clean (state_spelling version_1 (first_state (u ∷ us) (map line_number contents)))))
 
 -- a unit from a partition's start on, that isn't empty
 pub record IsWhole (u : WorkUnit) : Type 0 where
+  pub named : u.part ≢ []
   pub start : u.lo ≡ 0
   pub some : 0 < u.hi
 

@@ -10,14 +10,19 @@ use Rattle.gob_bytes.specs.Paths.{begins_with, job_file, state_name, under}
 use Rattle.gob_device.specs.Causes.{Rose}
 use Rattle.gob_device.specs.Disk.{Disk, Files, Along, clean, contents_at}
 use Rattle.gob_device.specs.Supply.{Held, Supply, with_pulls}
+use Rattle.gob_plan.specs.declared.plan.CommitPolicy.TheVariants.{Full}
+use Rattle.gob_plan.specs.declared.plan.CommitScope.TheVariants as scope
 use Rattle.gob_meaning.specs.Job.{plain_file, plain_job}
 use Rattle.gob_meaning.specs.Laws.{has_crlf}
 use Rattle.std.specs.Str.{is_utf8}
+use Rattle.gob_ledger.specs.Delta.{KeepsNothing}
 use Rattle.gob_ledger.specs.Expected.{bytes_in}
+use Rattle.gob_ledger.specs.Next.{Judged}
+use Rattle.gob_ledger.specs.State.{State}
 use Rattle.gob_ledger.specs.Turns.{pulls_in, turns_of}
 use Rattle.gob_ledger.specs.Units.{span_of}
 use Rattle.gob_history.specs.Runs.{RunLeft, run_units, run_verdicts, state_after, state_or_empty}
-use Rattle.gob_texts.specs.Report.{report_of, run_status}
+use Rattle.gob_texts.specs.Report.{commits_of, report_of, run_status}
 use Rattle.gob_top.specs.declared.answer.Report.{Report}
 use Rattle.gob_top.specs.declared.answer.Refusal.{Refusal}
 use Rattle.gob_top.specs.declared.answer.Refusal.TheVariants.{Usage, NoJob, NotBuilt, NotBuiltState, NotBuiltInput, SourceFault, VolumeFault, Memory}
@@ -49,6 +54,10 @@ input_refusal job held = cond (list_all (λ u. is_plain_text (bytes_in held u.pa
 
 -- ---- what a run that isn't refused leaves
 
+-- the report of these units, which are committed where all are good, and of the state after them
+abbrev pub plain_report : List ℕ → List Judged → State → List ℕ
+plain_report job all after = report_of job Full [] all (commits_of scope.Job Full all) after
+
 -- what was written can't be lost in part: each name keeps what it held, or its file was synced
 abbrev pub Lasting : Files → Files → Type 0
 Lasting m n = (name : List ℕ) → (n name ≡ m name) ⊎ ((bytes : List ℕ) × (n name ≡ Some (clean bytes)))
@@ -57,12 +66,12 @@ Lasting m n = (name : List ℕ) → (n name ≡ m name) ⊎ ((bytes : List ℕ) 
 abbrev pub StateLast : List ℕ → Files → Files → Files → Type 0
 StateLast job end m n = (n (state_name job) ≡ m (state_name job)) ⊎ ((name : List ℕ) → name ≢ state_name job → n name ≡ end name)
 
--- the report is of these units, their verdicts and the state that the volume now stores; one pull was made of each unit, in their order
+-- the report is of these units, their verdicts and the state that the volume now stores, where no change without a state stood; one pull was made of each unit, in their order
 pub record IsDone (job : List ℕ) (report : Report) (d : Disk) (s : Supply) (e : Disk) (t : Supply) : Type 0 where
-  pub left : RunLeft (plain_job job) s.held d.files None [] e.files
+  pub left : KeepsNothing job d.files → RunLeft (plain_job job) s.held d.files None [] e.files
   pub lasting : Lasting d.files e.files
   pub order : Along (StateLast job e.files) (Some d) (Some e)
-  pub text : report.text ≡ report_of job (plain_job job).policy [] (zip (run_units (plain_job job) s.held None) (run_verdicts (plain_job job) s.held [] None))
+  pub text : report.text ≡ plain_report job (zip (run_units (plain_job job) s.held None) (run_verdicts (plain_job job) s.held [] None))
       (state_or_empty (plain_job job) (state_after (plain_job job) s.held [] None))
   pub status : report.status ≡ run_status (run_verdicts (plain_job job) s.held [] None)
   pub pulls : t ≡ with_pulls (pulls_in (turns_of (plain_job job) s.held (run_units (plain_job job) s.held None) [])) s

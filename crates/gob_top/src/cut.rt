@@ -1,5 +1,5 @@
 //! The units of a run: what each partition has in whole lines.
-ghost use Rattle.std.specs.Prelude.{◌≡◌, ◌≤◌, ◌<◌, ◌++◌, length, All, IfOk, IfErr, IfSome, IsErr, OnOk, Some, min, unwrap_or, ◌^◌};
+ghost use Rattle.std.specs.Prelude.{◌≡◌, ◌≢◌, [], ◌≤◌, ◌<◌, ◌++◌, length, All, IfOk, IfErr, IfSome, IsErr, OnOk, Some, min, unwrap_or, ◌^◌};
 ghost use Rattle.std.specs.List.{flat_map};
 ghost use Rattle.std.specs.Option.{option_to_list};
 ghost use Rattle.std.specs.Str.{IsUtf8};
@@ -7,7 +7,7 @@ ghost use Rattle.gob_bytes.specs.Escapes as escapes;
 ghost use Rattle.gob_bytes.specs.Escapes.{escaped};
 ghost use Rattle.gob_bytes.specs.Lines as lines;
 ghost use Rattle.gob_device.specs.Causes.{HasCause};
-ghost use Rattle.gob_device.specs.Supply.{bytes_at, given};
+ghost use Rattle.gob_device.specs.Supply.{bytes_at, bytes_from};
 ghost use Rattle.gob_ledger.specs.Units as units;
 ghost use Rattle.gob_top.specs.Plain.{IsWhole, StoppedBySource, plain_units, unit_bytes};
 ghost use Rattle.gob_top.specs.Cuts.{AreSized, unit_for};
@@ -54,7 +54,8 @@ fn units_of<S: Source>(
     parts: &[Part],
     window: &mut [u8],
 ) -> Result<Vec<Unit>, Refusal>
-    requires { 0 < length window.old }
+    requires room { 0 < length window.old }
+    requires named { All (λ p. p.name ≢ []) parts.now }
     ensures units { IfOk result (λ units. IfSome (S.supply source.old) (λ s. AreSized s.held parts.now → units.items ≡ flat_map (unit_for s.held) parts.now)) }
     ensures whole { IfOk result (λ units. All IsWhole units.items) }
     ensures texts { IfOk result (λ units. All (λ u. IsUtf8 u.part) units.items) }
@@ -92,7 +93,8 @@ fn unit_of<S: Source>(
     part: &Part,
     window: &mut [u8],
 ) -> Result<Option<Unit>, Refusal>
-    requires { 0 < length window.old }
+    requires room { 0 < length window.old }
+    requires named { part.now.name ≢ [] }
     ensures unit { IfOk result (λ found. IfSome (S.supply source.old) (λ s.
         part.now.size ≡ length (bytes_at s.held part.now.name) → option_to_list found ≡ unit_for s.held part.now)) }
     ensures whole { IfOk result (λ found. IfSome found IsWhole) }
@@ -155,7 +157,8 @@ fn last_end<S: Source>(
     size: u64,
     window: &mut [u8],
 ) -> Result<u64, Failed>
-    requires { 0 < length window.old }
+    requires room { 0 < length window.old }
+    requires named { part.now ≢ [] }
     ensures end { IfOk result (λ end. IfSome (S.supply source.old) (λ s.
         size ≡ length (bytes_at s.held part.now) → end ≡ unwrap_or (lines.last_end (bytes_at s.held part.now)) 0)) }
     ensures supply { S.supply source.new ≡ S.supply source.old }
@@ -182,7 +185,8 @@ fn look_for_end<S: Source>(
     at: u64,
     window: &mut [u8],
 ) -> Result<Option<usize>, Failed>
-    ensures end { IfOk result (λ end. IfSome (S.supply source.old) (λ s. end ≡ lines.last_end (given s.held part.now at (length window.old)))) }
+    requires named { part.now ≢ [] }
+    ensures end { IfOk result (λ end. IfSome (S.supply source.old) (λ s. end ≡ lines.last_end (bytes_from s.held part.now at (length window.old)))) }
     ensures within { IfOk result (λ end. IfSome end (λ e. e ≤ length window.old)) }
     ensures supply { S.supply source.new ≡ S.supply source.old }
     ensures cause { HasCause (S.faults source.old) (S.faults source.new) (IsErr result) }

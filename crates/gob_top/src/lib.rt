@@ -9,8 +9,6 @@ mod lines;
 mod names;
 mod publish;
 mod run;
-#[cfg(test)]
-mod tests;
 mod texts;
 mod top;
 

@@ -3,6 +3,7 @@ ghost use Rattle.std.specs.Prelude.{◌≡◌, ◌≤◌, ◌++◌, [], Some, op
 ghost use Rattle.std.specs.Str.{IsUtf8};
 ghost use Rattle.gob_bytes.specs.Paths.{under};
 ghost use Rattle.gob_device.specs.Disk.{Along, OnlyAt, clean, put};
+ghost use Rattle.gob_device.specs.Names.{IsPathname};
 ghost use Rattle.gob_top.specs.Inputs.{KeepsState, PublishedFirst, after_inputs, with_inputs};
 ghost use Rattle.gob_top.specs.Plain.{StoppedByWriting, unit_name};
 ghost use Rattle.gob_top.specs.Runs.{OnlyBelow};
@@ -23,6 +24,7 @@ pub fn publish<V: Volume>(
     job: &str,
     inputs: &[Input],
 ) -> Result<(), Refusal>
+    requires named { IsPathname job.now }
     ensures ok { OnOk result (option_map (λ e. e.files) (V.disk volume.new) ≡ option_map (λ d. after_inputs job.now inputs.now d.files) (V.disk volume.old)) }
     ensures below { Along (OnlyBelow (under job.now [])) (V.disk volume.old) (V.disk volume.new) }
     ensures order { OnOk result (Along (PublishedFirst job.now inputs.now) (V.disk volume.old) (V.disk volume.new)) }
@@ -46,6 +48,7 @@ fn publish_units<V: Volume>(
     job: &str,
     inputs: &[Input],
 ) -> Result<(), Refusal>
+    requires named { IsPathname job.now }
     ensures ok { OnOk result (option_map (λ e. e.files) (V.disk volume.new) ≡ option_map (λ d. with_inputs job.now inputs.now d.files) (V.disk volume.old)) }
     ensures below { Along (OnlyBelow (under job.now [])) (V.disk volume.old) (V.disk volume.new) }
     ensures keeps { Along (KeepsState job.now) (V.disk volume.old) (V.disk volume.new) }
@@ -64,6 +67,7 @@ fn publish_unit<V: Volume>(
     job: &str,
     input: &Input,
 ) -> Result<(), Refusal>
+    requires named { IsPathname job.now }
     ensures ok { OnOk result (option_map (λ e. e.files) (V.disk volume.new) ≡ option_map (λ d. put d.files (unit_name job.now input.now.unit) (Some (clean input.now.bytes))) (V.disk volume.old)) }
     ensures below { Along (OnlyBelow (under job.now [])) (V.disk volume.old) (V.disk volume.new) }
     ensures keeps { Along (KeepsState job.now) (V.disk volume.old) (V.disk volume.new) }
@@ -76,6 +80,7 @@ fn publish_unit<V: Volume>(
 
 // Makes a file with these bytes, all of them kept.
 fn write_file<V: Volume>(volume: &mut V, name: &str, bytes: &[u8]) -> Result<(), Refusal>
+    requires named { IsPathname name.now }
     ensures ok { OnOk result (option_map (λ e. e.files) (V.disk volume.new) ≡ option_map (λ d. put d.files name.now (Some (clean bytes.now))) (V.disk volume.old)) }
     ensures only { Along (OnlyAt name.now) (V.disk volume.old) (V.disk volume.new) }
     ensures err { IfErr result (StoppedByWriting (V.faults volume.old) (V.faults volume.new)) }
@@ -94,8 +99,11 @@ fn write_file<V: Volume>(volume: &mut V, name: &str, bytes: &[u8]) -> Result<(),
 }
 
 // The name that a unit is published under.
+#[tactic(auto, using(crate::proofs::Called::unit_called))]
 fn published_name(alloc: Global, job: &str, unit: &Unit) -> Result<Text, Refusal>
+    requires named { IsPathname job.now }
     ensures name { IfOk result (λ name. name ≡ unit_name job.now unit.now) }
+    ensures path { IfOk result (λ name. IsPathname name) }
     ensures err { IfErr result (λ r. r ≡ Refusal.Memory) }
 {
     let mut name = Vec::new(alloc);

@@ -2,6 +2,7 @@
 ghost use Rattle.std.specs.Prelude.{◌≡◌, ◌≤◌, None, Some, false, is_some, IfErr, IfSome, OnOk};
 ghost use Rattle.gob_bytes.specs.Paths.{job_file, state_name};
 ghost use Rattle.gob_device.specs.Disk.{contents_at};
+ghost use Rattle.gob_device.specs.Names.{IsPathname};
 ghost use Rattle.gob_meaning.specs.Job.{plain_file};
 ghost use Rattle.gob_top.specs.Runs.{RunAnswered, volume_refusal};
 ghost use Rattle.gob_top.specs.Plain.{StoppedByState, StoppedByVolume};
@@ -26,6 +27,7 @@ pub fn run<S: Source, V: Volume>(
     source: &mut S,
     volume: &mut V,
 ) -> Result<Report, Refusal>
+    requires named { IsPathname job.now }
     ensures { RunAnswered job.now
         (record { supply = S.supply source.old; source_faults = S.faults source.old; plan_faults = S.plan_faults source.old; disk = V.disk volume.old; volume_faults = V.faults volume.old })
         (record { supply = S.supply source.new; source_faults = S.faults source.new; plan_faults = S.plan_faults source.new; disk = V.disk volume.new; volume_faults = V.faults volume.new })
@@ -41,6 +43,7 @@ pub fn run<S: Source, V: Volume>(
 
 // Nothing that stands on the volume speaks against a run.
 fn check_volume<V: Volume>(alloc: Global, job: &str, volume: &mut V) -> Result<(), Refusal>
+    requires named { IsPathname job.now }
     ensures ok { OnOk result (IfSome (V.disk volume.old) (λ d. volume_refusal job.now d.files ≡ None)) }
     ensures err { IfErr result (StoppedByVolume job.now (V.disk volume.old) (V.faults volume.old) (V.faults volume.new)) }
     ensures disk { V.disk volume.new ≡ V.disk volume.old }
@@ -52,6 +55,7 @@ fn check_volume<V: Volume>(alloc: Global, job: &str, volume: &mut V) -> Result<(
 
 // The job file is there, and is the one that can be run today.
 fn check_job_file<V: Volume>(alloc: Global, job: &str, volume: &mut V) -> Result<(), Refusal>
+    requires named { IsPathname job.now }
     ensures ok { OnOk result (IfSome (V.disk volume.old) (λ d. contents_at d.files (job_file job.now) ≡ Some plain_file)) }
     ensures err { IfErr result (StoppedByVolume job.now (V.disk volume.old) (V.faults volume.old) (V.faults volume.new)) }
     ensures disk { V.disk volume.new ≡ V.disk volume.old }
@@ -71,6 +75,7 @@ fn check_job_file<V: Volume>(alloc: Global, job: &str, volume: &mut V) -> Result
 
 // The job has no state yet.
 fn check_state<V: Volume>(alloc: Global, job: &str, volume: &mut V) -> Result<(), Refusal>
+    requires named { IsPathname job.now }
     ensures ok { OnOk result (IfSome (V.disk volume.old) (λ d. is_some (d.files (state_name job.now)) ≡ false)) }
     ensures err { IfErr result (StoppedByState job.now (V.disk volume.old) (V.faults volume.old) (V.faults volume.new)) }
     ensures disk { V.disk volume.new ≡ V.disk volume.old }

@@ -5,9 +5,10 @@ ghost use Rattle.std.specs.List.{flat_map};
 ghost use Rattle.gob_ledger.specs.Spelling as spelling;
 ghost use Rattle.gob_meaning.specs.Laws.{all_written};
 ghost use Rattle.gob_plan.specs.declared.plan.CommitPolicy.TheVariants.{Full};
-ghost use Rattle.gob_texts.specs.Report.{count_lines, mark_line, report_of, unit_lines};
+ghost use Rattle.gob_texts.specs.Report.{count_lines, mark_line, unit_lines};
 ghost use Rattle.gob_top.specs.Inputs.{judged_in, numbers_in, state_in};
 ghost use Rattle.gob_top.specs.Plain.{IsWhole, done_to, good_lines, total_of};
+ghost use Rattle.gob_top.specs.Runs.{plain_report};
 
 use crate::Refusal;
 use crate::input::Input;
@@ -37,7 +38,7 @@ const PIPELINE_LINES: u64 = 12;
 /// The state after a first run over these units, of which there is one at least.
 pub fn state_text(alloc: Global, inputs: &[Input]) -> Result<Bytes, Refusal>
     requires { inputs.now ≢ [] }
-    ensures text { IfOk result (λ text. text ≡ spelling.state_text (state_in inputs.now)) }
+    ensures text { IfOk result (λ text. text ≡ spelling.state_spelling spelling.version_1 (state_in inputs.now)) }
     ensures err { IfErr result (λ r. r ≡ Refusal.Memory) }
 {
     let mut text = Vec::new(alloc);
@@ -49,7 +50,7 @@ pub fn state_text(alloc: Global, inputs: &[Input]) -> Result<Bytes, Refusal>
 
 fn push_state(into: &mut Vec<u8>, inputs: &[Input]) -> Result<(), AllocError>
     requires { inputs.now ≢ [] }
-    ensures { OnOk result (into.new.items ≡ into.old.items ++ spelling.state_text (state_in inputs.now)) }
+    ensures { OnOk result (into.new.items ≡ into.old.items ++ spelling.state_spelling spelling.version_1 (state_in inputs.now)) }
 {
     push_line(into, "gobblin-state", &[Number(1)])?;
     push_line(into, "run", &[Number(1)])?;
@@ -76,7 +77,7 @@ fn push_state_totals(into: &mut Vec<u8>, total: u64) -> Result<(), AllocError>
 }
 
 fn push_partitions(into: &mut Vec<u8>, inputs: &[Input]) -> Result<(), AllocError>
-    ensures { OnOk result (into.new.items ≡ into.old.items ++ flat_map (λ i. spelling.part_text (i.unit.part, done_to i.unit.hi)) inputs.now) }
+    ensures { OnOk result (into.new.items ≡ into.old.items ++ flat_map (λ i. spelling.part_text spelling.version_1 (i.unit.part, done_to i.unit.hi)) inputs.now) }
 {
     for input in inputs {
         push_partition(into, input)?;
@@ -85,7 +86,7 @@ fn push_partitions(into: &mut Vec<u8>, inputs: &[Input]) -> Result<(), AllocErro
 }
 
 fn push_partition(into: &mut Vec<u8>, input: &Input) -> Result<(), AllocError>
-    ensures { OnOk result (into.new.items ≡ into.old.items ++ spelling.part_text (input.now.unit.part, done_to input.now.unit.hi)) }
+    ensures { OnOk result (into.new.items ≡ into.old.items ++ spelling.part_text spelling.version_1 (input.now.unit.part, done_to input.now.unit.hi)) }
 {
     push_line(
         into,
@@ -104,7 +105,7 @@ fn push_done(into: &mut Vec<u8>, hi: u64) -> Result<(), AllocError>
 /// What is told of a first run over these units.
 pub fn report_text(alloc: Global, job: &str, inputs: &[Input]) -> Result<Bytes, Refusal>
     requires { All (λ i. IsWhole i.unit) inputs.now }
-    ensures text { IfOk result (λ text. text ≡ report_of job.now Full [] (judged_in inputs.now) (state_in inputs.now)) }
+    ensures text { IfOk result (λ text. text ≡ plain_report job.now (judged_in inputs.now) (state_in inputs.now)) }
     ensures err { IfErr result (λ r. r ≡ Refusal.Memory) }
 {
     let mut text = Vec::new(alloc);
@@ -116,7 +117,7 @@ pub fn report_text(alloc: Global, job: &str, inputs: &[Input]) -> Result<Bytes, 
 
 fn push_report(into: &mut Vec<u8>, job: &str, inputs: &[Input]) -> Result<(), AllocError>
     requires { All (λ i. IsWhole i.unit) inputs.now }
-    ensures { OnOk result (into.new.items ≡ into.old.items ++ report_of job.now Full [] (judged_in inputs.now) (state_in inputs.now)) }
+    ensures { OnOk result (into.new.items ≡ into.old.items ++ plain_report job.now (judged_in inputs.now) (state_in inputs.now)) }
 {
     push_line(into, "job", &[Plain(job), Plain("policy"), Plain("full")])?;
     push_units(into, inputs)?;

@@ -26,7 +26,7 @@ pub fn gobblin<S: Source, V: Volume, O: Sink>(
         (record { supply = S.supply source.old; source_faults = S.faults source.old; plan_faults = S.plan_faults source.old; disk = V.disk volume.old; volume_faults = V.faults volume.old })
         (record { supply = S.supply source.new; source_faults = S.faults source.new; plan_faults = S.plan_faults source.new; disk = V.disk volume.new; volume_faults = V.faults volume.new })
         answer
-        × Delivered result answer (O.written out.old) (O.written out.new) (O.faults out.old) (O.faults out.new) }
+        × Delivered result answer (O.output out.old) (O.output out.new) (O.faults out.old) (O.faults out.new) }
     ensures sink_goes_on { O.faults out.old ≤ O.faults out.new }
 {
     let answer = match job_to_run(words) {
@@ -38,7 +38,7 @@ pub fn gobblin<S: Source, V: Volume, O: Sink>(
 
 // Writes what was answered. A write that fails takes the place of every status but want of memory.
 fn deliver<O: Sink>(answer: &Result<Report, Refusal>, out: &mut O) -> u8
-    ensures delivered { Delivered result answer.now (O.written out.old) (O.written out.new) (O.faults out.old) (O.faults out.new) }
+    ensures delivered { Delivered result answer.now (O.output out.old) (O.output out.new) (O.faults out.old) (O.faults out.new) }
     ensures goes_on { O.faults out.old ≤ O.faults out.new }
 {
     let (status, text) = match answer {

@@ -1,5 +1,4 @@
 pub mod Failing
-pub mod Moved
-pub mod Names
-pub mod Replays
-pub mod Revised
+pub mod Listings
+pub mod Tables
+pub mod Trails

@@ -1,47 +1,48 @@
 -- The maps that a list of calls stands for.
-use Rattle.std.specs.Prelude.{◌≡◌, ℕ, ◌≤◌, List, [], ◌∷◌, take, drop, length}
+use Rattle.std.specs.Prelude.{◌≡◌, ◌≢◌, ℕ, ◌≤◌, List, [], ◌∷◌, take, drop, length, IsSome}
 use Rattle.std.specs.declared.option.Option.TheVariants.{Some}
-use Rattle.std.proofs.Props.{props}
-use Rattle.gob_bytes.specs.Tables.{Table, Rising, at_name, names_of}
-use Rattle.gob_device.specs.Disk.{File, Files, Disk, clean, no_files, put, created, appended, synced, renamed, removed}
-use Rattle.gob_memory.specs.Order.{Rising-prop}
-use Rattle.gob_volume.specs.Crashes.{crashed, left_torn}
+use Rattle.gob_device.specs.Disk.{Files, clean, no_files, put}
+use Rattle.gob_device.specs.Disk.{after_create, after_append, after_sync, after_rename, after_remove}
+use Rattle.gob_volume.specs.Crashes.{after_crash, after_tear}
 use Rattle.gob_volume.specs.declared.calls.Call.{Call}
 use Rattle.gob_volume.specs.declared.calls.Call.TheVariants.{Create, Append, Sync, Rename, Remove, Tear, Put, Crash}
 
-unfoldable pub placed : List ℕ → List ℕ → Files → Files
-placed name bytes m = put m name (Some (clean bytes))
+-- a file that is kept whole is placed
+unfoldable pub after_put : List ℕ → List ℕ → Files → Files
+after_put name bytes m = put m name (Some (clean bytes))
 
 -- what a call makes of the map
 abbrev pub step_of : Call → Files → Files
-step_of (Create name) = created name
-step_of (Append name bytes) = appended name bytes
-step_of (Sync name) = synced name
-step_of (Rename source target) = renamed source target
-step_of (Remove name) = removed name
-step_of (Tear name) = left_torn name
-step_of (Put name bytes) = placed name bytes
-step_of (Crash tail) = crashed tail
+step_of (Create name) = after_create name
+step_of (Append name bytes) = after_append name bytes
+step_of (Sync name) = after_sync name
+step_of (Rename source target) = after_rename source target
+step_of (Remove name) = after_remove name
+step_of (Tear name) = after_tear name
+step_of (Put name bytes) = after_put name bytes
+step_of (Crash tail) = after_crash tail
+
+-- the file that a call needs is there
+abbrev pub CanBeDone : Call → Files → Type 0
+CanBeDone (Create name) m = Unit {0}
+CanBeDone (Append name bytes) m = IsSome (m name)
+CanBeDone (Sync name) m = IsSome (m name)
+CanBeDone (Rename source target) m = IsSome (m source) × (source ≢ target)
+CanBeDone (Remove name) m = Unit {0}
+CanBeDone (Tear name) m = IsSome (m name)
+CanBeDone (Put name bytes) m = Unit {0}
+CanBeDone (Crash tail) m = Unit {0}
 
 -- the map after these calls
-abbrev pub replayed : Files → List Call → Files
-replayed m [] = m
-replayed m (call ∷ calls) = replayed (step_of call m) calls
+abbrev pub map_after : Files → List Call → Files
+map_after m [] = m
+map_after m (call ∷ calls) = map_after (step_of call m) calls
 
 -- the map after each of them
 abbrev pub maps_after : Files → List Call → List Files
 maps_after m [] = []
 maps_after m (call ∷ calls) = step_of call m ∷ maps_after (step_of call m) calls
 
--- all calls from no files on; the trail has those that came after so many
-unfoldable pub disk_after : List Call → ℕ → Disk
-disk_after calls since = record { files = replayed no_files calls; trail = maps_after (replayed no_files (take since calls)) (drop since calls) }
-
--- the table is in order and answers as the calls replayed
-pub record Stands (table : Table File) (calls : List Call) (since : ℕ) : Type 0 where
-  pub rising : Rising (names_of table)
-  pub agrees : (name : List ℕ) → at_name table name ≡ replayed no_files calls name
-  pub within : since ≤ length calls
-
-pub Stands-prop : (table : Table File) (calls : List Call) (since : ℕ) → IsProp (Stands table calls since)
-Stands-prop table calls since = hlevel (props, Rising-prop)
+-- of all calls from no files on, the maps after those that came behind the first so many
+unfoldable pub trail_of : List Call → ℕ → List Files
+trail_of calls since = maps_after (map_after no_files (take since calls)) (drop since calls)

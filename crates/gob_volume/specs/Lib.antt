@@ -1,7 +1,8 @@
 pub mod Calls
-pub mod Changed
 pub mod Crashes
 pub mod Failures
+pub mod Maps
 pub mod MemVolume
 pub mod Reads
+pub mod Replay
 pub mod Stores

@@ -1,142 +1,60 @@
 //! The edge over a real folder that outlasts the run.
 
 ghost use Rattle.std.specs.Prelude.{◌≡◌, ◌≤◌, length, IfOk, IfSome, IsErr};
-ghost use Rattle.gob_device.specs.Causes.{HasCause};
+ghost use Rattle.gob_device.specs.Causes.{CountsFailure};
 
 use crate::{ReadFault, Volume};
-use gob_folders::{Folder, OpenFiles, WalkFault, read_full, read_whole, write_full};
+use gob_folders::{FileSystem, FolderFault, KeptFolder};
 use gob_plan::{Failed, Text};
 use std::alloc::Global;
-use std::fs::{Files, OpenFile};
+use std::collections::BTreeMap;
 
-/// Named files below a folder. What a call answers lasts: a name that was made, renamed or removed is synced with the
-/// folders that it stands in, and a file with the descriptor that wrote it. It tells nothing of what the files hold.
-/// A name with an empty component, `.` or `..` is a failure of the call.
+/// Named files below a folder. What a call answers lasts, and what is read was synced before: `KeptFolder` says how.
+/// It tells nothing of what the files hold. A name that no file can have is a failure of the call, and so is a name
+/// at which something else stands than a regular file. Want of memory is a failure where the call doesn't tell the
+/// two apart.
 #[derive(Drop)]
-pub struct DirVolume<'a, R: Files> {
-    alloc: Global,
-    folder: Folder<'a, R>,
-    open: OpenFiles<R::File>,
+pub struct DirVolume<'a, H: FileSystem> {
+    folder: KeptFolder<'a, H>,
     faults: u64,
 }
 
-impl<'a, R: Files> DirVolume<'a, R> {
-    pub fn new(rt: &'a R, alloc: Global, root: Text) -> Self {
+impl<'a, H: FileSystem> DirVolume<'a, H> {
+    pub fn new(fs: &'a H, alloc: Global, root: Text) -> Self
+        ensures { result.faults ≡ 0 }
+    {
         DirVolume {
-            alloc,
-            folder: Folder::new(rt, alloc, root.into_string()),
-            open: OpenFiles::new(alloc),
+            folder: KeptFolder::new(fs, alloc, root.into_string()),
             faults: 0,
         }
     }
 
-    // Takes out the file that is written under this name.
-    fn written(&mut self, name: &str) -> Result<(String, R::File), Failed>
-        ensures { self.new.faults ≡ self.old.faults }
+    // The answer to a call that doesn't tell want of memory from failure, counted.
+    fn counted<T: Drop>(&mut self, answer: Result<T, FolderFault>) -> Result<T, Failed>
+        ensures cause { CountsFailure self.old.faults self.new.faults (IsErr result) }
+        ensures ok { IfOk result (λ value. answer ≡ Ok value) }
     {
-        if let Some(kept) = self.open.take(name) {
-            return Ok(kept);
-        }
-        match self.folder.open_to_append(name)? {
-            Some(file) => Ok((owned(self.alloc, name)?, file)),
-            None => Err(Failed),
-        }
-    }
-
-    fn make(&mut self, name: &str) -> Result<(), Failed>
-        ensures { self.new.faults ≡ self.old.faults }
-    {
-        self.open.close(name);
-        let file = self.folder.create(name)?;
-        self.open.keep(owned(self.alloc, name)?, file);
-        Ok(())
-    }
-
-    fn add(&mut self, name: &str, bytes: &[u8]) -> Result<(), Failed>
-        ensures { self.new.faults ≡ self.old.faults }
-    {
-        let (name, mut file) = self.written(name)?;
-        write_full(&mut file, bytes)?;
-        self.open.keep(name, file);
-        Ok(())
-    }
-
-    fn keep_whole(&mut self, name: &str) -> Result<(), Failed>
-        ensures { self.new.faults ≡ self.old.faults }
-    {
-        let (_, file) = self.written(name)?;
-        file.sync_all().map_err(|_| Failed)
-    }
-
-    fn call_anew(&mut self, from: &str, to: &str) -> Result<(), Failed>
-        ensures { self.new.faults ≡ self.old.faults }
-    {
-        self.open.close(from);
-        self.open.close(to);
-        self.folder.rename(from, to)
-    }
-
-    fn take_away(&mut self, name: &str) -> Result<(), Failed>
-        ensures { self.new.faults ≡ self.old.faults }
-    {
-        self.open.close(name);
-        self.folder.remove(name)
-    }
-
-    fn whole(&self, alloc: Global, name: &str) -> Result<Option<Vec<u8>>, ReadFault> {
-        let Some(size) = self.folder.size(name).map_err(|_| ReadFault::Failed)? else {
-            return Ok(None);
-        };
-        match self.folder.open(name).map_err(|_| ReadFault::Failed)? {
-            Some(mut file) => Ok(Some(read_whole(alloc, &mut file, size).map_err(read_fault)?)),
-            None => Ok(None),
+        match answer {
+            Ok(value) => Ok(value),
+            Err(_) => {
+                self.faults = self.faults.saturating_add(1);
+                Err(Failed)
+            }
         }
     }
 
-    fn part(&self, name: &str, at: u64, into: &mut [u8]) -> Result<Option<usize>, Failed>
-        ensures { IfOk result (λ found. IfSome found (λ n. n ≤ length into.old)) }
+    // The answer to a call that tells them apart, counted.
+    fn counted_read<T: Drop>(&mut self, answer: Result<T, FolderFault>) -> Result<T, ReadFault>
+        ensures cause { CountsFailure self.old.faults self.new.faults (result ≡ Err ReadFault.Failed) }
     {
-        match self.folder.open(name)? {
-            Some(mut file) => Ok(Some(read_full(&mut file, at, into)?)),
-            None => Ok(None),
+        match answer {
+            Err(FolderFault::Memory) => Err(ReadFault::Memory),
+            answer => self.counted(answer).map_err(|_| ReadFault::Failed),
         }
-    }
-
-    fn listing(&self, alloc: Global, prefix: &str) -> Result<Vec<Text>, ReadFault> {
-        let files = self.folder.files(prefix).map_err(read_fault)?;
-        let mut names = Vec::new(alloc);
-        for (name, _) in files {
-            names
-                .push(Text::from_string(name))
-                .map_err(|_| ReadFault::Memory)?;
-        }
-        Ok(names)
-    }
-
-    // Counts a call that failed.
-    fn counted(&mut self, done: Result<(), Failed>) -> Result<(), Failed>
-        ensures cause { HasCause self.old.faults self.new.faults (IsErr result) }
-        ensures same { result ≡ done }
-    {
-        if let Err(Failed) = done {
-            self.faults = self.faults.saturating_add(1);
-        }
-        done
     }
 }
 
-fn owned(alloc: Global, text: &str) -> Result<String, Failed> {
-    String::from_str(alloc, text).map_err(|_| Failed)
-}
-
-fn read_fault(fault: WalkFault) -> ReadFault {
-    match fault {
-        WalkFault::Failed => ReadFault::Failed,
-        WalkFault::Memory => ReadFault::Memory,
-    }
-}
-
-impl<'a, R: Files> Volume for DirVolume<'a, R> {
+impl<'a, H: FileSystem> Volume for DirVolume<'a, H> {
     ghost use Rattle.std.specs.declared.option.Option.TheVariants.{None};
 
     ghost disk = { λ v. None };
@@ -144,59 +62,58 @@ impl<'a, R: Files> Volume for DirVolume<'a, R> {
     ghost faults = { λ v. v.faults };
 
     fn create(&mut self, name: &str) -> Result<(), Failed> {
-        let done = self.make(name);
+        let done = self.folder.create(name);
         self.counted(done)
     }
 
     fn append(&mut self, name: &str, bytes: &[u8]) -> Result<(), Failed> {
-        let done = self.add(name, bytes);
+        let done = self.folder.append(name, bytes);
         self.counted(done)
     }
 
     fn sync(&mut self, name: &str) -> Result<(), Failed> {
-        let done = self.keep_whole(name);
+        let done = self.folder.sync(name);
         self.counted(done)
     }
 
     fn rename(&mut self, from: &str, to: &str) -> Result<(), Failed> {
-        let done = self.call_anew(from, to);
+        let done = self.folder.rename(from, to);
         self.counted(done)
     }
 
     fn remove(&mut self, name: &str) -> Result<(), Failed> {
-        let done = self.take_away(name);
+        let done = self.folder.remove(name);
         self.counted(done)
     }
 
     fn read(&mut self, alloc: Global, name: &str) -> Result<Option<Vec<u8>>, ReadFault> {
-        let found = self.whole(alloc, name);
-        if let Err(ReadFault::Failed) = found {
-            self.faults = self.faults.saturating_add(1);
-        }
-        found
+        let found = self.folder.read(alloc, name);
+        self.counted_read(found)
     }
 
     fn read_at(&mut self, name: &str, at: u64, into: &mut [u8]) -> Result<Option<usize>, Failed> {
-        let found = self.part(name, at, into);
-        if let Err(Failed) = found {
-            self.faults = self.faults.saturating_add(1);
-        }
-        found
+        let found = self.folder.read_at(name, at, into);
+        self.counted(found)
     }
 
     fn size(&mut self, name: &str) -> Result<Option<u64>, Failed> {
         let found = self.folder.size(name);
-        if let Err(Failed) = found {
-            self.faults = self.faults.saturating_add(1);
-        }
-        found
+        self.counted(found)
     }
 
     fn names(&mut self, alloc: Global, prefix: &str) -> Result<Vec<Text>, ReadFault> {
-        let found = self.listing(alloc, prefix);
-        if let Err(ReadFault::Failed) = found {
-            self.faults = self.faults.saturating_add(1);
-        }
-        found
+        let found = match self.folder.files(prefix) {
+            Ok(files) => names_of(alloc, files),
+            Err(fault) => Err(fault),
+        };
+        self.counted_read(found)
     }
+}
+
+fn names_of(alloc: Global, files: BTreeMap<String, u64>) -> Result<Vec<Text>, FolderFault> {
+    let mut names = Vec::new(alloc);
+    for (name, _) in files {
+        names.push(Text::from_string(name))?;
+    }
+    Ok(names)
 }

@@ -4,12 +4,10 @@
 mod calls;
 mod dir_volume;
 mod failures;
-mod files;
+mod file_table;
 mod mem_volume;
 mod store;
 mod stored;
-#[cfg(test)]
-mod tests;
 mod volume;
 
 pub use dir_volume::DirVolume;

@@ -1,8 +1,8 @@
 //! A file as a volume in memory keeps it.
 
 ghost use Rattle.std.specs.Prelude.{◌≡◌, ◌++◌, [], IfOk, OnErr, OnOk};
-ghost use Rattle.gob_device.specs.Disk.{clean, contents_of, kept_whole, with_more};
-ghost use Rattle.gob_volume.specs.Crashes.{settled, torn};
+ghost use Rattle.gob_device.specs.Disk.{clean, contents_of, synced_file, with_more};
+ghost use Rattle.gob_volume.specs.Crashes.{image_of, torn_file};
 
 use gob_plan::NoMemory;
 use std::alloc::Global;
@@ -17,12 +17,12 @@ pub struct Stored {
 }
 
 impl Model for Stored {
-    ghost use Rattle.std.specs.Prelude.{◌≤◌, cond, drop, length, take};
+    ghost use Rattle.std.specs.Prelude.{◌≤◌, drop, if◌then◌else◌, length, take};
     ghost use Rattle.gob_device.specs.Disk.{File, clean, dirty};
 
     ghost Value = { File };
 
-    ghost view = { λ s. cond s.is_dirty (dirty (take s.kept s.bytes.items) (drop s.kept s.bytes.items)) (clean s.bytes.items) };
+    ghost view = { λ s. if s.is_dirty then dirty (take s.kept s.bytes.items) (drop s.kept s.bytes.items) else clean s.bytes.items };
 
     ghost invariant = { λ s. s.kept ≤ length s.bytes.items };
 }
@@ -73,14 +73,14 @@ impl Stored {
 
     /// Keeps all bytes.
     pub fn sync(&mut self)
-        ensures { self.new ≡ kept_whole self.old }
+        ensures { self.new ≡ synced_file self.old }
     {
         self.is_dirty = false;
     }
 
     /// Leaves it dirty, with its bytes as they were.
     pub fn tear(&mut self)
-        ensures { self.new ≡ torn self.old }
+        ensures { self.new ≡ torn_file self.old }
     {
         if !self.is_dirty {
             self.kept = self.bytes.len();
@@ -90,7 +90,7 @@ impl Stored {
 
     /// What a crash leaves of it, with these bytes in place of the loose ones.
     pub fn image(&self, tail: &[u8]) -> Result<Stored, NoMemory>
-        ensures { IfOk result (λ image. image ≡ settled tail.now self.now) }
+        ensures { IfOk result (λ image. image ≡ image_of tail.now self.now) }
     {
         let kept = if self.is_dirty {
             self.kept
@@ -98,14 +98,14 @@ impl Stored {
             self.bytes.len()
         };
         let tail = if self.is_dirty { tail } else { &[] };
-        match joined(*self.bytes.allocator(), &self.bytes[..kept], tail) {
+        match concat(*self.bytes.allocator(), &self.bytes[..kept], tail) {
             Ok(bytes) => Ok(Stored::whole(bytes)),
             Err(NoMemory) => Err(NoMemory),
         }
     }
 }
 
-fn joined(alloc: Global, front: &[u8], back: &[u8]) -> Result<Vec<u8>, NoMemory>
+fn concat(alloc: Global, front: &[u8], back: &[u8]) -> Result<Vec<u8>, NoMemory>
     ensures { IfOk result (λ bytes. bytes.items ≡ front.now ++ back.now) }
 {
     let mut bytes = match Vec::from_slice(alloc, front) {

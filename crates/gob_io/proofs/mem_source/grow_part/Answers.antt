@@ -1,13 +1,13 @@
 use Rattle.std.proofs.Common.{◌≡◌, [], ◌++◌, unwrap_or, sym, ap, subst, ◌∙◌}
 use Rattle.std.proofs.lemmas.Result.{on_ok_weaker}
-use Rattle.gob_bytes.specs.Tables.{names_of, Rising, with_name}
+use Rattle.gob_bytes.specs.Tables.{names_of, IsInByteOrder, with_name}
 use Rattle.gob_device.specs.Supply.{IsListed, bytes_at, listing_of}
 use Rattle.gob_memory.proofs.Places.{at-changed, with-changed}
 use Rattle.gob_io.proofs.Listed.{rising_held, listed-with_name, either_listed}
 use Rattle.gob_io.proofs.mem_source.grow_part.Goals as goal
 
 pub find-requires : goal.find-requires
-find-requires c = subst (λ t. Rising (names_of t)) (sym c.as_slice.ensures.value) (rising_held c.args.parts.now.items c.requires.listed)
+find-requires c = subst (λ t. IsInByteOrder (names_of t)) (sym c.as_slice.ensures.value) (rising_held c.args.parts.now.items c.requires.listed)
 
 pub set-requires : goal.set-requires
 set-requires c = rising_held c.args.parts.now.items c.requires.listed

@@ -1,5 +1,6 @@
-use Rattle.std.proofs.Common.{sym, ap, ◌∙◌, Some}
-use Rattle.gob_memory.proofs.Places.{value_there, without-stands, without-absent}
+use Rattle.gob_bytes.specs.Tables.{IsInByteOrder, names_of}
+use Rattle.std.proofs.Common.{sym, ap, subst, ◌∙◌, Some}
+use Rattle.gob_memory.proofs.Places.{value_there, rising-without, without-stands, without-absent}
 use Rattle.gob_memory.proofs.table.take.Goals as goal
 
 pub returns-in-Ok-clause-value : goal.returns-in-Ok-clause-value
@@ -16,3 +17,6 @@ pub returns-in-Err-clause-after : goal.returns-in-Err-clause-after
 returns-in-Err-clause-after g c =
     let at = rw c.as_slice.ensures.value at c.in-Err.ensures in
     sym (without-absent c.args.table.now.items c.args.name.now at.absent)
+
+pub returns-in-Ok-clause-rising : goal.returns-in-Ok-clause-rising
+returns-in-Ok-clause-rising g c = subst (λ t. IsInByteOrder (names_of t)) (sym (returns-in-Ok-clause-after g c)) (rising-without c.args.table.now.items c.args.name.now c.requires)

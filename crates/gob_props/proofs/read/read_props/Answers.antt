@@ -7,11 +7,15 @@ use Rattle.gob_props.proofs.read.read_props.Goals as goal
 pub returns-in_default : goal.returns-in_default
 unfolding properties_of
 returns-in_default c =
-    inr (sym (cond-false _ _ _ (false_from_ne_true _ (λ valid. c.in_default.ensures.cases.0 (IsUtf8-from_is_utf8 c.args.bytes.now valid)))))
+    inr (sym (cond-false _ _ _
+    (false_from_ne_true _ (λ valid. c.in_default.ensures.cases.0 (IsUtf8-from_is_utf8 c.args.bytes.now valid)))))
 
 pub returns : goal.returns
 unfolding properties_of
 returns c =
     let bytes = c.args.bytes.now in
-    let items = c.deref.ensures.value ∙ c.in_ok-characters.ensures ∙ ap chars c.in-Ok.ensures.cases.0 in
-    ⊎_elim (λ memory. inl memory) (λ read. inr (read ∙ ap read_text items ∙ sym (cond-true _ _ _ (is_utf8-from_IsUtf8 bytes c.in-Ok.ensures.cases.1)))) c.read_text.ensures
+    let text = ap chars c.in-Ok.ensures.cases.0 in
+    ⊎_elim (λ memory. inl memory)
+    (λ read. inr
+    (read ∙ ap read_text text
+    ∙ sym (cond-true _ _ _ (is_utf8-from_IsUtf8 bytes c.in-Ok.ensures.cases.1)))) c.read_text.ensures

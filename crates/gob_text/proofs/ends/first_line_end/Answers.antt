@@ -6,4 +6,5 @@ pub returns-in_err-memchr : goal.returns-in_err-memchr
 returns-in_err-memchr c = c.from_residual.ensures ∙ sym (first_end-none c.args.bytes.now c.in_err-memchr.ensures)
 
 pub returns : goal.returns
-returns c = sym (first_end-some c.args.bytes.now c.in_ok-memchr.field-0 c.in_ok-memchr.ensures.0 c.in_ok-memchr.ensures.1)
+returns c =
+    sym (first_end-some c.args.bytes.now c.in_ok-memchr.field-0 c.in_ok-memchr.ensures.0 c.in_ok-memchr.ensures.1)

@@ -5,4 +5,5 @@ use Rattle.gob_text.specs.declared.names.TheConstants.{ESCAPED}
 use Rattle.gob_text.proofs.names.is_spelled.Given as goal
 
 abbrev pub invariant-loop-piece : goal.invariant-loop-piece
-invariant-loop-piece l = (done : List ℕ) × (l.fn.text ≡ done ++ l.text) × (done ++ encoded_text l.piece-iterator ≡ percent_encode ESCAPED l.name)
+invariant-loop-piece l = (done : List ℕ) × (l.fn.text ≡ done ++ l.text)
+    × (done ++ encoded_text l.piece-iterator ≡ percent_encode ESCAPED l.name)

@@ -5,4 +5,5 @@ use Rattle.gob_text.specs.declared.names.TheConstants.{ESCAPED}
 use Rattle.gob_text.proofs.names.push_escaped.Given as goal
 
 abbrev pub invariant-loop-piece : goal.invariant-loop-piece
-invariant-loop-piece l = (done : List ℕ) × (l.into.items ≡ l.fn.into.items ++ done) × (done ++ encoded_text l.piece-iterator ≡ percent_encode ESCAPED l.name)
+invariant-loop-piece l = (done : List ℕ) × (l.into.items ≡ l.fn.into.items ++ done)
+    × (done ++ encoded_text l.piece-iterator ≡ percent_encode ESCAPED l.name)

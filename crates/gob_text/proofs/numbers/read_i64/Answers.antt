@@ -15,9 +15,11 @@ pub returns-in-Ok : goal.returns-in-Ok
 returns-in-Ok c =
     let digits : list_all is_ascii_digit c.without_minus.result.now ≡ true = cc in
     let parsed = subst (λ bs. ParsesSigned w64 10 bs c.parse.result) c.in-Ok.ensures.cases.0 c.parse.ensures.value.0 in
-    c.ok.ensures.value ∙ integer_read-parsed c.args.text.now c.parse.result parsed (ap (list_all is_ascii_digit) (sym c.without_minus.ensures) ∙ digits)
+    c.ok.ensures.value ∙ integer_read-parsed c.args.text.now c.parse.result parsed
+    (ap (list_all is_ascii_digit) (sym c.without_minus.ensures) ∙ digits)
 
 pub returns-in-Err : goal.returns-in-Err
 returns-in-Err c =
     let digits : list_all is_ascii_digit c.without_minus.result.now ≡ true = cc in
-    absurd (c.in-Err.ensures.cases.0 (integer_utf8 c.args.text.now (ap (list_all is_ascii_digit) (sym c.without_minus.ensures) ∙ digits)))
+    absurd (c.in-Err.ensures.cases.0
+    (integer_utf8 c.args.text.now (ap (list_all is_ascii_digit) (sym c.without_minus.ensures) ∙ digits)))

@@ -11,13 +11,15 @@ returns-then-not-are_digits c =
     sym (number_read-no_digits c.args.text.now no')
 
 pub returns-then-has_spare_zero : goal.returns-then-has_spare_zero
-returns-then-has_spare_zero c = sym (number_read-spare c.args.text.now (sym c.has_spare_zero.ensures ∙ c.if-has_spare_zero.true))
+returns-then-has_spare_zero c =
+    sym (number_read-spare c.args.text.now (sym c.has_spare_zero.ensures ∙ c.if-has_spare_zero.true))
 
 pub returns-in-Ok : goal.returns-in-Ok
 returns-in-Ok c =
     let digits : list_all is_ascii_digit c.args.text.now ≡ true = cc in
     let parsed = subst (λ bs. ParsesUnsigned 64 10 bs c.parse.result) c.in-Ok.ensures.cases.0 c.parse.ensures.value.0 in
-    c.ok.ensures.value ∙ number_read-parsed c.args.text.now c.parse.result parsed digits (sym c.has_spare_zero.ensures ∙ c.if-has_spare_zero.false)
+    c.ok.ensures.value ∙ number_read-parsed c.args.text.now c.parse.result parsed digits
+    (sym c.has_spare_zero.ensures ∙ c.if-has_spare_zero.false)
 
 pub returns-in-Err : goal.returns-in-Err
 returns-in-Err c =

@@ -1,5 +1,7 @@
-use Rattle.std.proofs.Common.{◌≤◌, ◌^◌, length, arith}
+use Rattle.std.proofs.Common.{◌≤◌, ◌≢◌, ◌^◌, List, [], All, length, sym, subst, arith}
+use Rattle.gob_io.specs.declared.source.Part.{Part}
 use Rattle.gob_top.proofs.CutUnits.{few_held, ok_all, stopped_later, units_held, units_plain}
+use Rattle.gob_top.proofs.Called.{parts_named}
 use Rattle.gob_top.proofs.cut.cut_units.Goals as goal
 
 pub returns-clause-units : goal.returns-clause-units
@@ -25,3 +27,7 @@ returns-clause-held g c =
 pub returns-clause-err : goal.returns-clause-err
 returns-clause-err g c =
     stopped_later c.units_of.result (g.S.Source.faults c.args.source.now) (g.S.Source.faults c.list.new.self) (g.S.Source.faults c.units_of.new.source) c.in-Ok.ensures.cause.later c.units_of.ensures.err
+
+pub units_of-requires-clause-named : goal.units_of-requires-clause-named
+units_of-requires-clause-named g c =
+    subst (λ (ps : List Part). All (λ p. p.name ≢ []) ps) (sym c.as_slice.ensures.value) (parts_named c.in-Ok.parts.items c.in-Ok.ensures.listed)

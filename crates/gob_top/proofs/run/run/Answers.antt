@@ -6,11 +6,9 @@ use Rattle.gob_device.specs.Disk.{Along, Disk}
 use Rattle.gob_device.specs.Supply.{Supply, with_pulls}
 use Rattle.gob_plan.specs.declared.units.Unit.{Unit as WorkUnit}
 use Rattle.gob_top.specs.declared.input.Input.{Input}
-use Rattle.gob_plan.specs.declared.plan.CommitPolicy.TheVariants.{Full}
-use Rattle.gob_texts.specs.Report.{report_of}
 use Rattle.gob_top.specs.Inputs.{PublishedFirst, after_inputs, judged_in, state_in}
 use Rattle.gob_top.specs.Plain.{IsWhole, plain_units, unit_bytes, whole_pull}
-use Rattle.gob_top.specs.Runs.{OnlyBelow}
+use Rattle.gob_top.specs.Runs.{OnlyBelow, plain_report}
 use Rattle.gob_top.proofs.Ran.{reported, same_disk, stopped_by_pulls, stopped_by_source, stopped_by_volume, stopped_by_writing, whole_inputs}
 use Rattle.gob_top.proofs.run.run.Goals as goal
 
@@ -69,7 +67,7 @@ returns g c =
     (subst (λ (o : Option Supply). IfSome o (λ s. map (λ i. i.bytes) inputs ≡ map (unit_bytes s.held) c.as_slice.result.now)) u.supply i.bytes) in
     reported job inputs _ units _ _ _ _ _ _ _ _ _ _
     (g.met.S.Source.held_is_listed c.args.source.now) u.few v.ok u.units (i.units ∙ c.as_slice.ensures.value) u.texts bytes i.plain i.lines
-    (subst (λ (is : List Input). c.in_ok-text.text ≡ report_of job Full [] (judged_in is) (state_in is)) c.as_slice-2.ensures.value t.text)
+    (subst (λ (is : List Input). c.in_ok-text.text ≡ plain_report job (judged_in is) (state_in is)) c.as_slice-2.ensures.value t.text)
     refl
     (i.pulls ∙ ((λ k. option_map (with_pulls (map whole_pull (c.as_slice.ensures.value k))) (u.supply k))))
     (p.ok ∙ (λ k. option_map (λ d. after_inputs job (c.as_slice-3.ensures.value k) d.files) (v.disk k)))

@@ -6,4 +6,7 @@ pub convert_each-requires : goal.convert_each-requires
 convert_each-requires g c =
     let a = g.A.Convert in
     let first = c.args.self.now.first in
-    list_all-of_made (a.out_fits (a.out_shape first)) (g.B.Convert.fits (g.B.Convert.shape c.args.self.now.second)) c.args.self.now.fit (a.made first c.args.rec) c.in_ok-between.between.items c.in_ok-between.ensures.ok (g.met.A.Convert.keeps first c.args.rec c.requires)
+    list_all-of_made (a.out_fits (a.out_shape first))
+    (g.B.Convert.fits (g.B.Convert.shape c.args.self.now.second)) c.args.self.now.fit
+    (a.made first c.args.rec) c.in_ok-between.between.items c.in_ok-between.ensures.ok
+    (g.met.A.Convert.keeps first c.args.rec c.requires)

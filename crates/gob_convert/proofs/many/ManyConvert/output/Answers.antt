@@ -8,4 +8,5 @@ pub returns-in-Some : goal.returns-in-Some
 returns-in-Some g c =
     let m = c.args.self.now in
     c.output.ensures
-    ∙ sym (ap (shape_through g.A.Convert.out_shape m.shape) (sym c.deref.ensures.value ∙ (c.in-Some.ensures).cases.0) ∙ shape_through-last g.A.Convert.out_shape m.shape c.in-Some.field-0-1.now c.in-Some.last.now)
+    ∙ sym (ap (shape_through g.A.Convert.out_shape m.shape) (sym c.deref.ensures.value ∙ (c.in-Some.ensures).cases.0)
+    ∙ shape_through-last g.A.Convert.out_shape m.shape c.in-Some.field-0-1.now c.in-Some.last.now)

@@ -1,12 +1,10 @@
-use Rattle.std.proofs.Common.{ap, sym, ◌∙◌, Some}
-use Rattle.std.proofs.lemmas.List.{append-nil}
+use Rattle.std.proofs.Common.{ap, Some}
 use Rattle.std.proofs.lemmas.Result.{on_ok_weaker, on_err_weaker}
-use Rattle.gob_io.specs.MemSink.{written_to}
 use Rattle.gob_io.proofs.mem_sink.MemSinkSink.TheImpl.Goals as goal
 
 pub write-tells : goal.write-tells
 write-tells c = record {
   ok = on_ok_weaker c.result (λ e. ap Some e) c.ensures.ok;
-  err = on_err_weaker c.result (λ e. (0, ap Some (e ∙ sym (append-nil (written_to c.args.self.now))))) c.ensures.err;
+  err = on_err_weaker c.result (λ e. (0, ap Some e)) c.ensures.err;
   cause = c.ensures.cause;
 }

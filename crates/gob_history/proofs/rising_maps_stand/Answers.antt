@@ -1,5 +1,0 @@
-use Rattle.gob_history.proofs.Rising.{rises_stand}
-use Rattle.gob_history.proofs.rising_maps_stand.Goals as goal
-
-pub returns : goal.returns
-returns c = rises_stand

@@ -1,9 +1,0 @@
-use Rattle.std.proofs.Common.{◌-◌, vec_len}
-use Rattle.gob_io.proofs.Joining.{Joining}
-use Rattle.gob_io.proofs.joined.join.Given as goal
-
-abbrev pub invariant-loop-done : goal.invariant-loop-done
-invariant-loop-done l = Joining l.fn.parts.items l.parts.items l.done
-
-abbrev pub decreases-loop-done : goal.decreases-loop-done
-decreases-loop-done l = vec_len l.parts - l.done

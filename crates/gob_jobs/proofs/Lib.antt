@@ -1,0 +1,16 @@
+pub mod OnLiterals
+pub mod ElementTables
+pub mod KeyTables
+pub mod PlanTables
+pub mod Results
+pub mod Rows
+pub mod Trimming
+pub mod Again
+pub mod Lines
+pub mod Keys
+pub mod Fitting
+pub mod Stages
+pub mod Tells
+pub mod Ranges
+pub mod Jobs
+pub mod Unknown

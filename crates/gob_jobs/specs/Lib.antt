@@ -1,0 +1,11 @@
+pub mod Words
+pub mod Pipelines
+pub mod Elements
+pub mod KeyTable
+pub mod Reading
+pub mod Plans
+pub mod Samples
+pub mod TablesOfElements
+pub mod TablesOfKeys
+pub mod TablesOfPlans
+pub mod Laws
