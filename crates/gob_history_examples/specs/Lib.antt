@@ -1,1 +1,2 @@
+pub mod HalfLine
 pub mod Unsynced

@@ -1,9 +1,7 @@
 -- The names of a job's files are names that a call may be given.
-use Rattle.std.proofs.Common.{◌≡◌, ◌≢◌, ℕ, zero, suc, ◌+◌, ◌<◌, ◌/◌, ◌%◌, Bool, true, false, cond, not, ◌&&◌, List, [], ◌∷◌, ◌++◌, refl, sym, ap, subst, ◌∙◌, Some, None, codes, map, arith}
-use Rattle.std.specs.declared.option.Option.{Option}
+use Rattle.std.proofs.Common.{◌≡◌, ◌≢◌, ℕ, zero, suc, ◌+◌, ◌<◌, ◌/◌, ◌%◌, Bool, true, false, cond, not, ◌&&◌, List, [], ◌∷◌, ◌++◌, refl, sym, subst, Some, None, codes, map, arith}
 use Rattle.std.specs.List.{All, list_all}
 use Rattle.std.specs.Str.{bytes_eq}
-use Rattle.std.specs.Prelude.{IfOk}
 use Rattle.std.specs.Fmt.{digit_glyph}
 use Rattle.std.proofs.lemmas.Bool.{and_parts}
 use Rattle.std.proofs.lemmas.Bool.Decides.{nat_tests}
@@ -20,6 +18,7 @@ use Rattle.gob_io.specs.Listing.{entry_of}
 use Rattle.gob_io.specs.declared.source.Part.{Part}
 use Rattle.gob_plan.specs.declared.units.Unit.{Unit as WorkUnit}
 use Rattle.gob_top.specs.Answers.{job_to_run}
+use Rattle.gob_top.specs.Checks.{job_to_check}
 use Rattle.gob_top.specs.Plain.{unit_name}
 use Rattle.gob_top.proofs.Named.{unit_name-parts}
 
@@ -100,17 +99,26 @@ job_called job is =
     begun [] e same = let no : false ≡ true = e in cc
     begun (b ∷ bs) e same = cc
 
--- and so is that of the job to run
-pub run_called : (words : List (List ℕ)) (job : List ℕ) → job_to_run words ≡ Some job → IsPathname job
-run_called [] job is = absurd (let no : None ≡ Some job = is in cc)
-run_called (word ∷ []) job is = absurd (let no : None ≡ Some job = is in cc)
-run_called (word ∷ other ∷ []) job is = cases (bytes_eq word (codes "run")) (is_job_name other) refl is
+-- and so is that of a command line's job
+asked : (a : Bool) (other job : List ℕ) → cond (a && is_job_name other) (Some other) None ≡ Some job → IsPathname job
+asked a other job is = cases a (is_job_name other) refl is
   where
     cases : (a b : Bool) → is_job_name other ≡ b → cond (a && b) (Some other) None ≡ Some job → IsPathname job
     cases true true e is = let same : other ≡ job = cc in subst IsPathname same (job_called other e)
     cases true false e is = absurd (let no : None ≡ Some job = is in cc)
     cases false b e is = absurd (let no : None ≡ Some job = is in cc)
+
+pub run_called : (words : List (List ℕ)) (job : List ℕ) → job_to_run words ≡ Some job → IsPathname job
+run_called [] job is = absurd (let no : None ≡ Some job = is in cc)
+run_called (word ∷ []) job is = absurd (let no : None ≡ Some job = is in cc)
+run_called (word ∷ other ∷ []) job is = asked (bytes_eq word (codes "run")) other job is
 run_called (word ∷ other ∷ more ∷ words) job is = absurd (let no : None ≡ Some job = is in cc)
+
+pub check_called : (words : List (List ℕ)) (job : List ℕ) → job_to_check words ≡ Some job → IsPathname job
+check_called [] job is = absurd (let no : None ≡ Some job = is in cc)
+check_called (word ∷ []) job is = absurd (let no : None ≡ Some job = is in cc)
+check_called (word ∷ other ∷ []) job is = asked (bytes_eq word (codes "check")) other job is
+check_called (word ∷ other ∷ more ∷ words) job is = absurd (let no : None ≡ Some job = is in cc)
 
 -- the partitions of a listing have names
 pub parts_named : (parts : List Part) → IsListed (map entry_of parts) → All (λ p. p.name ≢ []) parts

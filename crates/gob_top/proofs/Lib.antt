@@ -14,3 +14,4 @@ pub mod Named
 pub mod Order
 pub mod Ran
 pub mod Called
+pub mod Checked

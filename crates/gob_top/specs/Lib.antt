@@ -1,5 +1,6 @@
 pub mod World
 pub mod Answers
+pub mod Checks
 pub mod Runs
 pub mod Plain
 pub mod Inputs

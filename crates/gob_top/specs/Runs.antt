@@ -27,6 +27,7 @@ use Rattle.gob_top.specs.declared.answer.Report.{Report}
 use Rattle.gob_top.specs.declared.answer.Refusal.{Refusal}
 use Rattle.gob_top.specs.declared.answer.Refusal.TheVariants.{Usage, NoJob, NotBuilt, NotBuiltState, NotBuiltInput, SourceFault, VolumeFault, Memory}
 use Rattle.gob_top.specs.Answers.{Answer, job_to_run}
+use Rattle.gob_top.specs.Checks.{CheckAnswered, job_to_check}
 use Rattle.gob_top.specs.World.{World, NoSourceCall, GoesOn, WhereTold}
 
 -- ---- why a run is refused, in the order of the refusals
@@ -128,5 +129,8 @@ pub record UsageAnswered (old new : World) (a : Answer) : Type 0 where
   pub answer : a ≡ Err Usage
   pub same : new ≡ old
 
+-- `run JOB` and `check JOB` are command lines
 abbrev pub Answered : List (List ℕ) → World → World → Answer → Type 0
-Answered words old new a = MatchOption (job_to_run words) (UsageAnswered old new a) (λ job. RunAnswered job old new a)
+Answered words old new a = MatchOption (job_to_run words)
+    (MatchOption (job_to_check words) (UsageAnswered old new a) (λ job. CheckAnswered job old new a))
+    (λ job. RunAnswered job old new a)

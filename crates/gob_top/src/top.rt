@@ -3,7 +3,8 @@ ghost use Rattle.std.specs.Prelude.{◌≤◌, map, string_bytes};
 ghost use Rattle.gob_top.specs.Answers.{Answer, Delivered};
 ghost use Rattle.gob_top.specs.Runs.{Answered};
 
-use crate::command::job_to_run;
+use crate::check::check;
+use crate::command::{job_to_check, job_to_run};
 use crate::run::run;
 use crate::{Refusal, Report};
 use gob_io::{Sink, Source};
@@ -12,7 +13,7 @@ use gob_volume::Volume;
 use std::alloc::Global;
 
 /// Does what the words of a command line ask for, writes one text by one call of the sink, and answers the exit
-/// status. Today the words are `run JOB`.
+/// status. Today the words are `run JOB` and `check JOB`.
 pub fn gobblin<S: Source, V: Volume, O: Sink>(
     alloc: Global,
     words: &[String],
@@ -31,7 +32,10 @@ pub fn gobblin<S: Source, V: Volume, O: Sink>(
 {
     let answer = match job_to_run(words) {
         Some(job) => run(alloc, job, source, volume),
-        None => Err(Refusal::Usage),
+        None => match job_to_check(words) {
+            Some(job) => check(alloc, job, volume),
+            None => Err(Refusal::Usage),
+        },
     };
     deliver(&answer, out)
 }

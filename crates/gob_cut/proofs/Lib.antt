@@ -1,0 +1,5 @@
+pub mod Places
+pub mod Looks
+pub mod Taking
+pub mod Told
+pub mod Listed

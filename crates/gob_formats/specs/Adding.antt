@@ -1,0 +1,6 @@
+-- What is left of a list that was added to.
+use Rattle.std.specs.Prelude.{◌≡◌, List, length, take}
+
+-- what was there before is there still, in front
+abbrev pub Keeps : {A : Type 0} → List A → List A → Type 0
+Keeps old new = take (length old) new ≡ old

@@ -1,0 +1,24 @@
+mod AmongNumbers
+pub mod Elements
+pub mod Words
+pub mod Trims
+pub mod Pieces
+pub mod WordTables
+pub mod Formed
+pub mod Over
+pub mod RowSteps
+pub mod FieldSteps
+pub mod ItemLoops
+pub mod UnknownSteps
+pub mod PlansTold
+pub mod SettingLines
+pub mod LineColumns
+pub mod PipelineRows
+pub mod KeyTexts
+pub mod BranchLoops
+pub mod ValuesAt
+pub mod StepLists
+pub mod Texts
+pub mod Due
+pub mod Known
+pub mod Numbered

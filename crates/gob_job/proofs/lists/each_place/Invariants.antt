@@ -1,0 +1,9 @@
+use Rattle.std.proofs.Common.{◌≡◌, drop}
+use Rattle.gob_jobs.specs.Words.{each_read}
+use Rattle.gob_job.specs.Cuts.{texts_of}
+use Rattle.gob_job.specs.Loops.{behind}
+use Rattle.gob_jobs.specs.Words.{number_within}
+use Rattle.gob_job.proofs.lists.each_place.Given as goal
+
+abbrev pub invariant-loop-element : goal.invariant-loop-element
+invariant-loop-element l = behind l.places (each_read (number_within 0 63) (texts_of (drop l.element-index l.fn.elements))) ≡ each_read (number_within 0 63) (texts_of l.fn.elements)

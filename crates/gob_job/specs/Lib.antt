@@ -1,0 +1,13 @@
+pub mod Cuts
+pub mod Names
+pub mod Faults
+pub mod Forms
+pub mod StepForms
+pub mod Drafts
+pub mod Rows
+pub mod LookUps
+pub mod Readings
+pub mod Jobs
+pub mod Loops
+pub mod KeysKnown
+pub mod PipelineLines

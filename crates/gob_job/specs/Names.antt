@@ -1,0 +1,7 @@
+-- A word of a table with its value.
+use Rattle.std.specs.Prelude.{ℕ, List}
+use Rattle.gob_job.specs.declared.tables.Named.{Named}
+
+-- the word and the value
+abbrev pub named : {T : Type 0} → Named T → List ℕ × T
+named n = (n.name.now, n.value)

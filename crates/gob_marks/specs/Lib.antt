@@ -1,0 +1,4 @@
+pub mod Changed
+pub mod Joined
+pub mod Places
+pub mod Tables

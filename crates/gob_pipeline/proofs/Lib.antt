@@ -1,0 +1,3 @@
+mod Chunks
+mod Cuts
+mod Lines

@@ -1,0 +1,4 @@
+mod Doing
+mod Names
+mod Parts
+mod Turns

@@ -1,0 +1,4 @@
+pub mod Done
+pub mod Turning
+pub mod Laws
+pub mod TurnLaws

@@ -1,0 +1,34 @@
+-- Names of changes are text.
+use Rattle.std.proofs.Common.{◌≡◌, ◌<◌, ℕ, ◌+◌, ◌/◌, ◌%◌, zero, suc, List, [], ◌∷◌, ◌++◌, codes, ap, ◌∙◌}
+use Rattle.std.proofs.Common.{append_assoc, IsUtf8, arith, rules}
+use Rattle.std.proofs.lemmas.Str.{IsUtf8-append, IsUtf8-from_ascii, IsUtf8-nil}
+use Rattle.std.proofs.lemmas.Str.Ascii.{IsAscii-cons, IsAscii-nil}
+use Rattle.gob_bytes.specs.Digits.{offset, padded}
+use Rattle.gob_bytes.specs.Paths.{delta_folder, delta_name}
+
+one_byte : (b : ℕ) → b < 128 → IsUtf8 (b ∷ [])
+one_byte b small = IsUtf8-from_ascii (b ∷ []) (IsAscii-cons b [] small IsAscii-nil)
+
+digits_text : (k n : ℕ) → IsUtf8 (padded k n)
+unfolding padded
+digits_text zero n = IsUtf8-nil
+digits_text (suc k) n = IsUtf8-append (padded k (n / 10)) ((48 + n % 10) ∷ []) (digits_text k (n / 10))
+    (one_byte (48 + n % 10) (omega arith))
+
+pub offset_text : (n : ℕ) → IsUtf8 (offset n)
+unfolding offset
+offset_text n = digits_text 20 n
+
+pub delta_text : (job : List ℕ) (run : ℕ) → IsUtf8 job → IsUtf8 (delta_name job run)
+delta_text job run text = IsUtf8-append (delta_folder job) (offset run)
+    (IsUtf8-append job (47 ∷ codes "delta/") text (IsUtf8-from_ascii (47 ∷ codes "delta/") (search rules)))
+    (offset_text run)
+
+pub delta_pushed : (old job a b c : List ℕ) (run : ℕ) → a ≡ old ++ job → b ≡ a ++ codes "/delta/"
+    → c ≡ b ++ offset run → c ≡ old ++ delta_name job run
+delta_pushed old job a b c run ra rb rc =
+    rc ∙ ap (λ x. x ++ offset run) (rb ∙ ap (λ x. x ++ codes "/delta/") ra)
+    ∙ joined old job (codes "/delta/") (offset run)
+  where
+    joined : (old job folder digits : List ℕ) → ((old ++ job) ++ folder) ++ digits ≡ old ++ ((job ++ folder) ++ digits)
+    joined old job folder digits = simp append_assoc

@@ -1,0 +1,13 @@
+pub mod Trails
+pub mod Fronts
+pub mod Resettled
+pub mod GoingOver
+pub mod Named
+pub mod Cleaned
+pub mod Lines
+pub mod Written
+pub mod Once
+pub mod Rows
+pub mod Losing
+pub mod ByNames
+pub mod Openings

@@ -1,0 +1,4 @@
+pub mod Attempt
+pub mod Inside
+pub mod Stages
+pub mod Laws

@@ -1,0 +1,10 @@
+pub mod Steps
+pub mod Along
+pub mod LineLemmas
+pub mod SettingLemmas
+pub mod CountLemmas
+pub mod RangeLemmas
+pub mod PartLemmas
+pub mod FileLemmas
+pub mod WriteLemmas
+pub mod NextLemmas

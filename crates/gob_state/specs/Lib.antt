@@ -1,0 +1,9 @@
+pub mod Committed
+pub mod Counts
+pub mod Files
+pub mod Parts
+pub mod Ranges
+pub mod Reads
+pub mod Settings
+pub mod Versions
+pub mod Written

@@ -1,0 +1,6 @@
+use Rattle.std.proofs.Common.{IfSome, subst}
+use Rattle.gob_ledger.specs.Spelling.{Proper}
+use Rattle.gob_state_tests.proofs.texts.read_and_written.Goals as goal
+
+pub write_state-requires : goal.write_state-requires
+write_state-requires g c = subst (λ o. IfSome o Proper) c.in-Some.is c.in_ok-state.ensures.proper

@@ -1,0 +1,7 @@
+pub mod Named
+pub mod Cuts
+pub mod Chains
+pub mod Making
+pub mod Telling
+pub mod Lists
+pub mod Picking
