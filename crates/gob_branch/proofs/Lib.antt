@@ -1,1 +1,4 @@
+pub mod Days
+pub mod Joined
+mod Rows
 mod Spans

@@ -148,3 +148,10 @@ pub not_killed : (branch : ℕ) (end : ItemEnd) (bytes : List ℕ) (later : Opti
 not_killed branch Written bytes later other = refl
 not_killed branch Error bytes later other = refl
 not_killed branch (Killed policy) bytes later other = absurd (other policy refl)
+
+-- ---- the first so many
+
+pub within_take : (bytes : List ℕ) (n : ℕ) (ss : List Span) → AreWithin bytes ss → AreWithin bytes (take n ss)
+within_take bytes zero ss all = tt
+within_take bytes (suc n) [] all = tt
+within_take bytes (suc n) (s ∷ ss) all = (all.0, within_take bytes n ss all.1)

@@ -1,1 +1,2 @@
 pub mod ItemSpans
+pub mod Branches

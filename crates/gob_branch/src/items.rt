@@ -1,5 +1,5 @@
 //! What a line makes, item by item, in buffers that serve the next line too.
-ghost use Rattle.std.specs.Prelude.{◌≡◌, ◌<◌, ◌≤◌, ◌++◌, [], ◌∷◌, length, OnErr, OnOk, Some};
+ghost use Rattle.std.specs.Prelude.{◌≡◌, ◌<◌, ◌≤◌, ◌++◌, [], ◌∷◌, length, take, OnErr, OnOk, Some};
 ghost use Rattle.std.specs.Str.{IsUtf8};
 ghost use Rattle.std.specs.List.{slice_get};
 ghost use Rattle.gob_meaning.specs.Fold.{first_kill};
@@ -81,6 +81,13 @@ impl LineItems {
         self.spans.clear();
     }
 
+    /// Leaves so many items.
+    pub fn truncate(&mut self, count: usize)
+        ensures { self.new ≡ take count self.old }
+    {
+        self.spans.truncate(count);
+    }
+
     pub fn len(&self) -> usize
         ensures { result ≡ length self.now }
     {
@@ -151,7 +158,8 @@ fn part(bytes: &[u8], from: usize, to: usize) -> &[u8]
     &bytes[from..to]
 }
 
-fn text_of(bytes: &[u8]) -> &str
+// Bytes that are a text.
+pub fn text_of(bytes: &[u8]) -> &str
     requires { IsUtf8 bytes.now }
     ensures { result.now ≡ bytes.now }
 {

@@ -1,7 +1,6 @@
 -- Loops over a listing.
 use Rattle.std.proofs.Common.{◌≡◌, ℕ, zero, suc, ◌+◌, ◌<◌, ◌≤◌, Bool, true, false, cond, nat_lt, List, [], ◌∷◌, ◌++◌, All, length, map, take, drop, get_or, Some, None, is_some, refl, sym, ap, subst, ◌∙◌, arith, add-one, append-nil, append_assoc}
-use Rattle.std.specs.declared.option.Option.{Option}
-use Rattle.std.specs.List.{filter, find, flat_map, slice_get}
+use Rattle.std.specs.List.{AllByRecursion, filter, slice_get}
 use Rattle.std.proofs.lemmas.Bool.{ltb-false, ltb-true}
 use Rattle.std.proofs.lemmas.Bool.Decides.{nat_tests}
 use Rattle.std.proofs.lemmas.List.{take_more}
@@ -16,6 +15,8 @@ use Rattle.gob_ledger.specs.Units.{first_shrunk, next_of}
 use Rattle.gob_plan.specs.declared.units.Unit.{Unit as WorkUnit}
 use Rattle.gob_cut.specs.declared.rounds.Cursor.{Cursor}
 use Rattle.gob_cut.specs.Rounds.{AreSized, IsCursor, all_cuts_of, all_rounds, cuts_from, first_cursor, lists_of, owed_unit_of, owed_units_of, part_at, size_at, unit_of_range}
+use Rattle.gob_cut.specs.Going.{BeginsAt, PlacesRise}
+use Rattle.gob_cut.proofs.Going.{each_push, each_same, rise_push}
 use Rattle.gob_cut.proofs.Places.{no_cut}
 use Rattle.gob_cut.proofs.Taking.{all_without, cut_units, cuts_step, entry_at, is_sized}
 
@@ -151,3 +152,29 @@ grown_cursor kept i e at before after within is went all = cases (nat_lt at e.1)
         let size : size_at kept i ≡ e.1 = ap (λ (x : List ℕ × ℕ). x.1) (entry_at kept i e within is) in
         All-same (IsCursor kept) after (before ++ record { place = i; at = at } ∷ []) went (All-push (IsCursor kept) before (record { place = i; at = at }) all (record { place = within; at = omega (arith, below, size) }))
     cases false none went = All-same (IsCursor kept) after before (went ∙ append-nil before) all
+
+pub grown_apart : (i : ℕ) (e : List ℕ × ℕ) (at : ℕ) (before after : List Cursor) → after ≡ before ++ first_cursor i at e.1 → AllByRecursion (λ c. c.place < i) before → PlacesRise 0 before → PlacesRise 0 after
+grown_apart i e at before after went below rise = subst (PlacesRise 0) (sym went) (cases (nat_lt at e.1))
+  where
+    cases : (b : Bool) → PlacesRise 0 (before ++ cond b (record { place = i; at = at } ∷ []) [])
+    cases true = rise_push 0 before (record { place = i; at = at }) rise below (omega arith)
+    cases false = subst (PlacesRise 0) (sym (append-nil before)) rise
+
+pub grown_below : (i : ℕ) (e : List ℕ × ℕ) (at : ℕ) (before after : List Cursor) → after ≡ before ++ first_cursor i at e.1 → AllByRecursion (λ c. c.place < i) before → AllByRecursion (λ c. c.place < i + 1) after
+grown_below i e at before after went below = subst (AllByRecursion (λ c. c.place < i + 1)) (sym went) (cases (nat_lt at e.1))
+  where
+    later : AllByRecursion (λ (c : Cursor). c.place < i + 1) before
+    later = each_same (λ c. c.place < i) (λ c. c.place < i + 1) before (λ c b. omega (arith, b)) below
+
+    cases : (b : Bool) → AllByRecursion (λ c. c.place < i + 1) (before ++ cond b (record { place = i; at = at } ∷ []) [])
+    cases true = each_push (λ c. c.place < i + 1) before (record { place = i; at = at }) later (omega arith)
+    cases false = subst (AllByRecursion (λ c. c.place < i + 1)) (sym (append-nil before)) later
+
+pub grown_begins : (kept : Table ℕ) (i : ℕ) (e : List ℕ × ℕ) (at : ℕ) (from : List ℕ → ℕ) (before after : List Cursor) → i < length kept → e ≡ get_or kept i e → at ≡ from e.0
+    → after ≡ before ++ first_cursor i at e.1 → AllByRecursion (BeginsAt kept from) before → AllByRecursion (BeginsAt kept from) after
+grown_begins kept i e at from before after within is next went begins = subst (AllByRecursion (BeginsAt kept from)) (sym went) (cases (nat_lt at e.1))
+  where
+    cases : (b : Bool) → AllByRecursion (BeginsAt kept from) (before ++ cond b (record { place = i; at = at } ∷ []) [])
+    cases true = each_push (BeginsAt kept from) before (record { place = i; at = at }) begins
+        (next ∙ ap from (sym (ap (λ (x : List ℕ × ℕ). x.0) (entry_at kept i e within is))))
+    cases false = subst (AllByRecursion (BeginsAt kept from)) (sym (append-nil before)) begins

@@ -1,11 +1,11 @@
 -- Where lines end in the parts of a text, and where a cut ends.
-use Rattle.std.proofs.Common.{◌≡◌, ◌⊎◌, inl, inr, ⊎_elim, ℕ, zero, suc, ◌+◌, ◌-◌, ◌<◌, ◌≤◌, Bool, true, false, cond, ◌&&◌, nat_eq, nat_lt, nat_le, List, [], ◌∷◌, ◌++◌, length, map, take, drop, min, IfSome, Some, None, option_map, refl, sym, ap, subst, ◌∙◌, arith, append-nil, length-append}
+use Rattle.std.proofs.Common.{◌≡◌, ◌⊎◌, inl, inr, ⊎_elim, ℕ, suc, ◌+◌, ◌-◌, ◌<◌, ◌≤◌, Bool, true, false, cond, ◌&&◌, nat_eq, nat_lt, nat_le, List, [], ◌∷◌, ◌++◌, length, map, take, drop, min, IfSome, Some, None, option_map, refl, sym, ap, subst, ◌∙◌, arith, append-nil, length-append}
 use Rattle.std.specs.declared.option.Option.{Option}
 use Rattle.std.specs.List.{filter, find, last_or, slice_get}
 use Rattle.std.proofs.lemmas.Bool.Decides.{nat_tests}
 use Rattle.std.proofs.lemmas.List.{drop-drop, length-drop, length-take-le, nil_from_length, take-append-drop}
 use Rattle.std.proofs.lemmas.List.Elements.{filter-append}
-use Rattle.gob_bytes.specs.Lines.{Line, end_of, first_end, last_end, line_ends, lines_from}
+use Rattle.gob_bytes.specs.Lines.{end_of, first_end, last_end, line_ends, lines_from}
 use Rattle.gob_bytes.proofs.Cuts.{ends_told}
 use Rattle.gob_device.specs.Supply.{line_end_or_zero, seen_by_look}
 use Rattle.gob_ledger.specs.Units.{cut_end}

@@ -10,7 +10,7 @@ use Rattle.gob_bytes.specs.Lines.{line_ends}
 use Rattle.gob_bytes.specs.Tables.{Table}
 use Rattle.gob_device.specs.Supply.{Held, Supply, bytes_at}
 use Rattle.gob_plan.specs.declared.units.Unit.{Unit as WorkUnit}
-use Rattle.gob_ledger.specs.Marks.{Marks, Span}
+use Rattle.gob_ledger.specs.Marks.{Marks}
 use Rattle.gob_ledger.specs.Units.{cut_end, cuts, in_rounds, new_unit, then_cuts}
 use Rattle.gob_ledger.proofs.Pieces.{bounds}
 use Rattle.gob_cut.specs.declared.rounds.Cursor.{Cursor}

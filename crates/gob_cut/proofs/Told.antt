@@ -1,17 +1,16 @@
 -- What a listing says of what a source holds.
-use Rattle.std.proofs.Common.{◌≡◌, ◌≢◌, ℕ, ◌+◌, ◌<◌, ◌≤◌, Bool, true, false, cond, ◌&&◌, not, nat_lt, List, [], ◌∷◌, ◌++◌, All, length, map, take, Some, None, is_some, unwrap_or, option_map, refl, sym, ap, subst, ◌∙◌, arith, IfSome}
+use Rattle.std.proofs.Common.{◌≡◌, ◌≢◌, ℕ, Bool, true, false, cond, ◌&&◌, List, [], ◌∷◌, ◌++◌, All, length, map, take, Some, None, is_some, unwrap_or, refl, sym, ap, subst, ◌∙◌, IfSome}
 use Rattle.std.specs.declared.option.Option.{Option}
-use Rattle.std.specs.List.{AllByRecursion, Contains, filter, flat_map}
+use Rattle.std.specs.List.{AllByRecursion, Contains, filter}
 use Rattle.std.specs.Str.{bytes_eq}
-use Rattle.std.proofs.lemmas.List.Elements.{All-contains_itself, All-cons, All-from_recursion, All-head, All-nil, All-tail, All-weaker, recursion_from_All}
-use Rattle.gob_bytes.specs.Lines.{line_ends}
+use Rattle.std.proofs.lemmas.List.Elements.{All-contains_itself, All-from_recursion, All-head, All-tail, All-weaker, recursion_from_All}
 use Rattle.gob_bytes.specs.Tables.{IsInByteOrder, Table, at_name, names_of}
 use Rattle.gob_bytes.proofs.Tables.{at_from_member, same_name}
 use Rattle.gob_device.specs.Supply.{Held, IsEntry, IsListed, Supply, bytes_at, listing_of}
 use Rattle.gob_plan.specs.declared.plan.Limits.{Limits}
 use Rattle.gob_plan.specs.declared.units.Unit.{Unit as WorkUnit}
 use Rattle.gob_ledger.specs.Marks.{Marks, Span}
-use Rattle.gob_ledger.specs.Units.{all_cuts, cuts_of, first_shrunk, is_kept, is_listed, new_units, next_of, owed_unit, owed_units, too_long, units_of_parts}
+use Rattle.gob_ledger.specs.Units.{all_cuts, cuts_of, first_shrunk, is_kept, is_listed, owed_unit, owed_units, too_long, units_of_parts}
 use Rattle.gob_ledger.proofs.Cutting.{rising_filter}
 use Rattle.gob_cut.specs.declared.fault.CutFault.{CutFault}
 use Rattle.gob_cut.specs.declared.fault.CutFault.TheVariants as fault
@@ -19,10 +18,7 @@ use Rattle.gob_cut.specs.declared.fault.Stop.{Stop}
 use Rattle.gob_cut.specs.declared.fault.Stop.TheVariants.{Failed, Memory}
 use Rattle.gob_cut.specs.Faults.{IsShrunk, ShrunkIsTold, fault_of}
 use Rattle.gob_cut.specs.Rounds.{AreSized, all_cuts_of, all_rounds, cuts_from, owed_unit_of, owed_units_of}
-
--- the partitions of a listing that the job takes
-abbrev pub kept_of : Limits → Table ℕ → Table ℕ
-kept_of limits listing = filter (λ e. is_kept limits e.0) listing
+use Rattle.gob_cut.specs.Units.{kept_of}
 
 pub names_listed : (held : Held) → names_of (listing_of held) ≡ names_of held
 names_listed [] = refl
@@ -176,3 +172,9 @@ other_fault (Some t) parts f s is = subst (ShrunkIsTold parts (listing_of t.held
     either : (s : Stop) → ShrunkIsTold parts (listing_of t.held) (fault_of s)
     either Failed = tt
     either Memory = tt
+
+-- the names of what is held rise
+pub told_rising : (o : Option Supply) (listing : Table ℕ) → IfSome o (λ s. listing ≡ listing_of s.held) → IsListed listing → IfSome o (λ s. IsInByteOrder (names_of s.held))
+told_rising None listing lists listed = tt
+told_rising (Some s) listing lists listed =
+    subst IsInByteOrder (ap (λ (t : Table ℕ). names_of t) lists ∙ names_listed s.held) listed.rising

@@ -1,6 +1,7 @@
 //! The partitions of a listing: those that the job takes, those whose names are too long, and one that shrank.
-ghost use Rattle.std.specs.Prelude.{◌≡◌, ◌&&◌, not, map, IfErr, IfOk, OnOk, None};
+ghost use Rattle.std.specs.Prelude.{◌≡◌, ◌&&◌, not, map, All, IfErr, IfOk, OnOk, None};
 ghost use Rattle.std.specs.List.{filter};
+ghost use Rattle.std.specs.Str.{IsUtf8};
 ghost use Rattle.gob_bytes.specs.Tables.{names_of};
 ghost use Rattle.gob_io.specs.Listing.{entry_of};
 ghost use Rattle.gob_ledger.specs.Units as ledger;
@@ -58,7 +59,8 @@ fn has_prefix(limits: &Limits, part: &str) -> bool
 }
 
 fn is_kept(limits: &Limits, part: &str) -> bool
-    ensures { result ≡ ledger.is_kept limits.now part.now }
+    ensures kept { result ≡ ledger.is_kept limits.now part.now }
+    ensures text { IsUtf8 part.now }
 {
     has_prefix(limits, part) && is_short(part)
 }
@@ -75,7 +77,9 @@ pub fn kept_parts(
     parts: &[Part],
     limits: &Limits,
 ) -> Result<Vec<(Text, u64)>, NoMemory>
-    ensures { IfOk result (λ kept. kept.items ≡ filter (λ e. ledger.is_kept limits.now e.0) (map entry_of parts.now)) }
+    ensures kept { IfOk result (λ kept. kept.items
+        ≡ filter (λ e. ledger.is_kept limits.now e.0) (map entry_of parts.now)) }
+    ensures texts { IfOk result (λ kept. All (λ e. IsUtf8 e.0) kept.items) }
 {
     let mut kept = Vec::new(alloc);
     for part in parts {

@@ -1,6 +1,7 @@
 //! The open ranges of all partitions, as units.
 ghost use Rattle.std.specs.Prelude.{◌≡◌, ◌++◌, is_some, map, OnOk};
 ghost use Rattle.gob_bytes.specs.Tables.{IsInByteOrder, at_name, names_of};
+ghost use Rattle.gob_marks.specs.Tables.{TiledTable};
 ghost use Rattle.gob_cut.specs.Rounds.{owed_units_of, unit_of_range};
 
 use gob_marks::{MarkTable, Range};
@@ -16,7 +17,8 @@ pub fn add_owed(
     units: &mut List<Unit>,
 ) -> Result<(), NoMemory>
     requires { IsInByteOrder (names_of kept.now) }
-    ensures { OnOk result (units.new ≡ units.old ++ owed_units_of kept.now marks.now) }
+    ensures units { OnOk result (units.new ≡ units.old ++ owed_units_of kept.now marks.now) }
+    ensures tiled { TiledTable marks.now }
 {
     for place in 0..marks.len() {
         let Some((part, marks)) = marks.at(place) else {

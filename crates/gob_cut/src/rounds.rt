@@ -1,7 +1,9 @@
 //! New units: the first cut of each partition, then the second of each, and so on.
-ghost use Rattle.std.specs.Prelude.{◌≡◌, ◌≢◌, ◌≤◌, ◌<◌, ◌+◌, ◌-◌, ◌++◌, [], All, length, take, IfOk, IfSome, OnOk, IsErr};
-ghost use Rattle.gob_bytes.specs.Tables.{names_of};
+ghost use Rattle.std.specs.Prelude.{◌≡◌, ◌≢◌, ◌≤◌, ◌<◌, ◌+◌, ◌-◌, ◌++◌, [], All, length, take, IfOk, IfSome, OnOk};
+ghost use Rattle.std.specs.Prelude.{IsErr};
+ghost use Rattle.gob_bytes.specs.Tables.{IsInByteOrder, names_of};
 ghost use Rattle.gob_device.specs.Causes.{HasCause};
+ghost use Rattle.gob_cut.specs.Going.{Goes, PlacesRise};
 ghost use Rattle.gob_cut.specs.Rounds.{AreSized, IsCursor, all_rounds, found_cursors, found_units, lists_of};
 
 use crate::ends::next_end;
@@ -31,9 +33,13 @@ pub fn add_cuts<S: Source>(
     units: &mut List<Unit>,
 ) -> Result<(), Stop>
     requires named { All (λ e. e.0 ≢ []) kept.now }
+    requires rising { IsInByteOrder (names_of kept.now) }
     requires cursors { All (IsCursor kept.now) cursors.items }
+    requires apart { PlacesRise 0 cursors.items }
     ensures units { OnOk result (IfSome (S.supply source.old) (λ s. AreSized s.held kept.now
         → units.new ≡ units.old ++ take most (all_rounds (lists_of s.held max kept.now cursors.items)))) }
+    ensures goes { OnOk result (Goes kept.now cursors.items [] units.old units.new) }
+    ensures few { OnOk result (length units.new ≤ length units.old + most) }
     ensures supply { S.supply source.new ≡ S.supply source.old }
     ensures cause { HasCause (S.faults source.old) (S.faults source.new) (result ≡ Err Stop.Failed) }
     ensures planned { HasCause (S.plan_faults source.old) (S.plan_faults source.new) (result ≡ Err Stop.Failed) }
@@ -66,9 +72,13 @@ fn add_rounds<S: Source>(
 ) -> Result<(), Stop>
     requires room { 0 < length window.old }
     requires named { All (λ e. e.0 ≢ []) kept.now }
+    requires rising { IsInByteOrder (names_of kept.now) }
     requires cursors { All (IsCursor kept.now) cursors.items }
+    requires apart { PlacesRise 0 cursors.items }
     ensures units { OnOk result (IfSome (S.supply source.old) (λ s. AreSized s.held kept.now
         → units.new ≡ units.old ++ take most (all_rounds (lists_of s.held max kept.now cursors.items)))) }
+    ensures goes { OnOk result (Goes kept.now cursors.items [] units.old units.new) }
+    ensures few { OnOk result (length units.new ≤ length units.old + most) }
     ensures supply { S.supply source.new ≡ S.supply source.old }
     ensures cause { HasCause (S.faults source.old) (S.faults source.new) (result ≡ Err Stop.Failed) }
     ensures planned { HasCause (S.plan_faults source.old) (S.plan_faults source.new) (result ≡ Err Stop.Failed) }
@@ -105,10 +115,14 @@ fn round<S: Source>(
 ) -> Result<Vec<Cursor>, Stop>
     requires room { 0 < length window.old }
     requires named { All (λ e. e.0 ≢ []) kept.now }
+    requires rising { IsInByteOrder (names_of kept.now) }
     requires cursors { All (IsCursor kept.now) cursors.now }
+    requires apart { PlacesRise 0 cursors.now }
     ensures units { IfOk result (λ going. IfSome (S.supply source.old) (λ s. AreSized s.held kept.now
         → units.new ++ take (most - length going.items) (all_rounds (lists_of s.held max kept.now going.items))
         ≡ units.old ++ take most (all_rounds (lists_of s.held max kept.now cursors.now)))) }
+    ensures goes { IfOk result (λ going. Goes kept.now cursors.now going.items units.old units.new) }
+    ensures count { IfOk result (λ going. length units.new ≡ length units.old + length going.items) }
     ensures few { IfOk result (λ going. length going.items ≤ most) }
     ensures cursors { IfOk result (λ going. All (IsCursor kept.now) going.items) }
     ensures supply { S.supply source.new ≡ S.supply source.old }

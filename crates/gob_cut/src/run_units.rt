@@ -1,11 +1,16 @@
 //! The units of a run.
 ghost use Rattle.std.specs.Prelude.{◌≡◌, ◌≢◌, ◌++◌, ℕ, [], All, take, IfErr, IfOk, IfSome, OnOk, Some, None};
+ghost use Rattle.std.specs.List.{AllByRecursion};
 ghost use Rattle.gob_bytes.specs.Tables.{IsInByteOrder, names_of};
 ghost use Rattle.gob_device.specs.Causes.{HasCause};
 ghost use Rattle.gob_device.specs.Supply.{Held, listing_of};
 ghost use Rattle.gob_ledger.specs.Units as ledger;
+ghost use Rattle.gob_marks.specs.Tables.{TiledTable};
 ghost use Rattle.gob_cut.specs.Faults.{ShrunkIsTold};
-ghost use Rattle.gob_cut.specs.Rounds.{AreSized, IsCursor, all_cuts_of, all_rounds, first_cursor, lists_of, owed_units_of};
+ghost use Rattle.gob_cut.specs.Going.{BeginsAt, PlacesRise};
+ghost use Rattle.gob_cut.specs.Rounds.{AreSized, IsCursor, all_cuts_of, all_rounds, first_cursor, lists_of};
+ghost use Rattle.gob_cut.specs.Rounds.{owed_units_of};
+ghost use Rattle.gob_cut.specs.Units.{AreCut, UnitsAre};
 
 use crate::fault::{CutFault, Stop};
 use crate::listing::{kept_parts, next_of, refuse_shrunk, too_long};
@@ -37,9 +42,12 @@ pub fn units<S: Source>(
         cut.units ≡ ledger.units_of_parts marks.now s.held limits.now)) }
     ensures too_long { IfOk result (λ cut. IfSome (S.supply source.old) (λ s.
         cut.too_long ≡ ledger.too_long limits.now (names_of s.held))) }
+    ensures cut { IfOk result (UnitsAre marks.now limits.now) }
+    ensures rising { OnOk result (IfSome (S.supply source.old) (λ s. IsInByteOrder (names_of s.held))) }
     ensures unshrunk { OnOk result (IfSome (S.supply source.old) (λ s.
         ledger.first_shrunk marks.now (listing_of s.held) ≡ None)) }
-    ensures shrunk { IfErr result (λ f. IfSome (S.supply source.old) (λ s. ShrunkIsTold marks.now (listing_of s.held) f)) }
+    ensures shrunk { IfErr result (λ f. IfSome (S.supply source.old) (λ s.
+        ShrunkIsTold marks.now (listing_of s.held) f)) }
     ensures supply { S.supply source.new ≡ S.supply source.old }
     ensures cause { HasCause (S.faults source.old) (S.faults source.new) (result ≡ Err CutFault.Failed) }
     ensures planned { HasCause (S.plan_faults source.old) (S.plan_faults source.new) (result ≡ Err CutFault.Failed) }
@@ -72,6 +80,8 @@ fn units_of<S: Source>(
     ensures units { IfOk result (λ units. IfSome (S.supply source.old) (λ s. AreSized s.held kept.now → units
         ≡ owed_units_of kept.now marks.now ++ take limits.now.max_new_units
         (all_rounds (all_cuts_of s.held marks.now limits.now.max_bytes kept.now)))) }
+    ensures cut { IfOk result (λ units. AreCut kept.now marks.now limits.now.max_new_units units) }
+    ensures tiled { OnOk result (TiledTable marks.now) }
     ensures supply { S.supply source.new ≡ S.supply source.old }
     ensures cause { HasCause (S.faults source.old) (S.faults source.new) (result ≡ Err Stop.Failed) }
     ensures planned { HasCause (S.plan_faults source.old) (S.plan_faults source.new) (result ≡ Err Stop.Failed) }
@@ -99,6 +109,9 @@ fn first_cursors(
     marks: &MarkTable,
 ) -> Result<Vec<Cursor>, NoMemory>
     ensures cursors { IfOk result (λ cursors. All (IsCursor kept.now) cursors.items) }
+    ensures apart { IfOk result (λ cursors. PlacesRise 0 cursors.items) }
+    ensures begins { IfOk result (λ cursors.
+        AllByRecursion (BeginsAt kept.now (ledger.next_of marks.now)) cursors.items) }
     ensures cuts { IfOk result (λ cursors. (held : Held) (max : ℕ) → AreSized held kept.now
         → all_rounds (lists_of held max kept.now cursors.items)
         ≡ all_rounds (all_cuts_of held marks.now max kept.now)) }

@@ -15,7 +15,7 @@ use Rattle.gob_plan.specs.declared.plan.Limits.{Limits}
 use Rattle.gob_plan.specs.declared.units.Unit.{Unit as WorkUnit}
 use Rattle.gob_ledger.specs.Marks.{Marks, Span, Tiled, done_spans, spans_of, has, InOrder}
 use Rattle.gob_ledger.specs.State.{State, marks_at, TiledState}
-use Rattle.gob_ledger.specs.Units.{cut_end, then_cuts, cuts, is_kept, next_of, span_of, new_unit, cuts_of, in_rounds, kept_parts, all_cuts, owed_unit, owed_units, new_units, units_of_parts, units_of, AreAdjacentFrom, fresh_in, same_span, same_unit, IsOwed}
+use Rattle.gob_ledger.specs.Units.{cut_end, then_cuts, cuts, is_kept, next_of, span_of, new_unit, cuts_of, in_rounds, kept_parts, all_cuts, owed_unit, owed_units, new_units, units_of_parts, units_of, AreAdjacentFrom, fresh_in, same_span, same_unit, is_listed, IsOwed, UnitsFit}
 use Rattle.gob_ledger.specs.Archive.{IsLineStart, LiesOnLines, LiesIn, IsWithin}
 use Rattle.gob_ledger.specs.Laws.{UnitsFitState, UnitsLieOnLines}
 use Rattle.gob_ledger.proofs.Members.{none_in, first_in, later_in, in_cases, in_filter, filter_in, in_map, in_flat_map}
@@ -235,18 +235,29 @@ new_member parts held limits u h =
     let e = in_filter (λ e. is_kept limits e.0) held c.0 c.1 in
     record { entry = c.0; kept = e.0; taken = e.1; span = d.0; cut = d.1; is = d.2 }
 
-pub record OldRange (parts : Table Marks) (held : Held) (limits : Limits) (u : WorkUnit) : Type 0 where
+-- an open range as a unit, where the partitions that are listed are known
+abbrev pub range_unit : (List ℕ → Bool) → List ℕ → Span → WorkUnit
+range_unit listed part s = record { part = part; lo = s.lo; hi = s.hi; fresh = false; listed = listed part }
+
+-- the open ranges, by partition and offset
+abbrev pub range_units : (List ℕ → Bool) → Table Marks → List WorkUnit
+range_units listed parts = flat_map (λ e. map (range_unit listed e.0) e.1.owed) parts
+
+pub record OldRange (listed : List ℕ → Bool) (parts : Table Marks) (u : WorkUnit) : Type 0 where
   pub entry : List ℕ × Marks
   pub there : Contains parts entry
   pub span : Span
   pub owed : Contains entry.1.owed span
-  pub is : owed_unit held limits entry.0 span ≡ u
+  pub is : range_unit listed entry.0 span ≡ u
 
-pub old_member : (parts : Table Marks) (held : Held) (limits : Limits) (u : WorkUnit) → Contains (owed_units parts held limits) u → OldRange parts held limits u
-old_member parts held limits u h =
-    let a = in_flat_map (λ e. map (owed_unit held limits e.0) e.1.owed) parts u h in
-    let b = in_map (owed_unit held limits a.0.0) a.0.1.owed u a.2 in
+pub range_member : (listed : List ℕ → Bool) (parts : Table Marks) (u : WorkUnit) → Contains (range_units listed parts) u → OldRange listed parts u
+range_member listed parts u h =
+    let a = in_flat_map (λ e. map (range_unit listed e.0) e.1.owed) parts u h in
+    let b = in_map (range_unit listed a.0.0) a.0.1.owed u a.2 in
     record { entry = a.0; there = a.1; span = b.0; owed = b.1; is = b.2 }
+
+pub old_member : (parts : Table Marks) (held : Held) (limits : Limits) (u : WorkUnit) → Contains (owed_units parts held limits) u → OldRange (is_listed held limits) parts u
+old_member parts held limits u h = range_member (is_listed held limits) parts u h
 
 -- ---- no unit stands twice
 
@@ -316,40 +327,40 @@ runs_distinct (u ∷ us) fresh runs = (all_apart us (λ v h. h), runs_distinct u
     all_apart (w ∷ ws) sub = (apart w (sub w (first_in w ws w refl)), all_apart ws (λ v h. sub v (later_in w ws v h)))
 
 -- the owed units of one partition, and of all
-owed_distinct : (held : Held) (limits : Limits) (part : List ℕ) (from : ℕ) (ss : List Span) → InOrder from ss → IsDistinct same_unit (map (owed_unit held limits part) ss)
+owed_distinct : (listed : List ℕ → Bool) (part : List ℕ) (from : ℕ) (ss : List Span) → InOrder from ss → IsDistinct same_unit (map (range_unit listed part) ss)
 unfolding IsDistinct
-owed_distinct held limits part from [] order = tt
-owed_distinct held limits part from (s ∷ ss) (a, b, c) = (all_apart ss (λ t h. h), owed_distinct held limits part s.hi ss c)
+owed_distinct listed part from [] order = tt
+owed_distinct listed part from (s ∷ ss) (a, b, c) = (all_apart ss (λ t h. h), owed_distinct listed part s.hi ss c)
   where
-    all_apart : (ts : List Span) → ((t : Span) → Contains ts t → Contains ss t) → AllByRecursion (λ y. same_unit (owed_unit held limits part s) y ≡ false) (map (owed_unit held limits part) ts)
+    all_apart : (ts : List Span) → ((t : Span) → Contains ts t → Contains ss t) → AllByRecursion (λ y. same_unit (range_unit listed part s) y ≡ false) (map (range_unit listed part) ts)
     all_apart [] sub = tt
     all_apart (t ∷ ts) sub = (
-      other_lo (owed_unit held limits part s) (owed_unit held limits part t) (let above = (order_members s.hi ss t c (sub t (first_in t ts t refl))).0 in omega (arith, above)),
+      other_lo (range_unit listed part s) (range_unit listed part t) (let above = (order_members s.hi ss t c (sub t (first_in t ts t refl))).0 in omega (arith, above)),
       all_apart ts (λ x h. sub x (later_in t ts x h)),
     )
 
-owed_all_distinct : (held : Held) (limits : Limits) (parts : Table Marks) → IsInByteOrder (names_of parts) → ((e : List ℕ × Marks) → Contains parts e → InOrder 0 e.1.owed) → IsDistinct same_unit (owed_units parts held limits)
+owed_all_distinct : (listed : List ℕ → Bool) (parts : Table Marks) → IsInByteOrder (names_of parts) → ((e : List ℕ × Marks) → Contains parts e → InOrder 0 e.1.owed) → IsDistinct same_unit (range_units listed parts)
 unfolding IsDistinct
-owed_all_distinct held limits [] rising order = tt
-owed_all_distinct held limits (e ∷ es) rising order =
-    distinct_join (map (owed_unit held limits e.0) e.1.owed) (owed_units es held limits)
-    (owed_distinct held limits e.0 0 e.1.owed (order e (first_in e es e refl)))
-    (owed_all_distinct held limits es (rising_tail e.0 (names_of es) rising) (λ d h. order d (later_in e es d h)))
+owed_all_distinct listed [] rising order = tt
+owed_all_distinct listed (e ∷ es) rising order =
+    distinct_join (map (range_unit listed e.0) e.1.owed) (range_units listed es)
+    (owed_distinct listed e.0 0 e.1.owed (order e (first_in e es e refl)))
+    (owed_all_distinct listed es (rising_tail e.0 (names_of es) rising) (λ d h. order d (later_in e es d h)))
     (λ u v h k.
-    let a = in_map (owed_unit held limits e.0) e.1.owed u h in
-    let b = old_member es held limits v k in
+    let a = in_map (range_unit listed e.0) e.1.owed u h in
+    let b = range_member listed es v k in
     let up : e.0 ≡ u.part = ap (λ (x : WorkUnit). x.part) a.2 in
     let vp : b.entry.0 ≡ v.part = ap (λ (x : WorkUnit). x.part) b.is in
     other_part u v (λ same. less_apart e.0 b.entry.0 (below_all es e.0 b.entry rising b.there) (up ∙ (same ∙ sym vp))))
 
-none_fresh : (held : Held) (limits : Limits) (q part : List ℕ) (ss : List Span) → fresh_in q (map (owed_unit held limits part) ss) ≡ []
-none_fresh held limits q part [] = refl
-none_fresh held limits q part (s ∷ ss) = none_fresh held limits q part ss
+none_fresh : (listed : List ℕ → Bool) (q part : List ℕ) (ss : List Span) → fresh_in q (map (range_unit listed part) ss) ≡ []
+none_fresh listed q part [] = refl
+none_fresh listed q part (s ∷ ss) = none_fresh listed q part ss
 
-no_fresh : (held : Held) (limits : Limits) (q : List ℕ) (parts : Table Marks) → fresh_in q (owed_units parts held limits) ≡ []
-no_fresh held limits q [] = refl
-no_fresh held limits q (e ∷ es) = filter-append (is_new_in q) (map (owed_unit held limits e.0) e.1.owed) (owed_units es held limits)
-    ∙ λ i. none_fresh held limits q e.0 e.1.owed i ++ no_fresh held limits q es i
+no_fresh : (listed : List ℕ → Bool) (q : List ℕ) (parts : Table Marks) → fresh_in q (range_units listed parts) ≡ []
+no_fresh listed q [] = refl
+no_fresh listed q (e ∷ es) = filter-append (is_new_in q) (map (range_unit listed e.0) e.1.owed) (range_units listed es)
+    ∙ λ i. none_fresh listed q e.0 e.1.owed i ++ no_fresh listed q es i
 
 -- the new units of one partition follow each other from its next
 pub new_follow : (parts : Table Marks) (held : Held) (limits : Limits) (q : List ℕ) → IsInByteOrder (names_of held) → AreAdjacentFrom (next_of parts q) (fresh_in q (new_units parts held limits))
@@ -368,38 +379,43 @@ new_follow parts held limits q rising =
 pub next_at : (s : State) (part : List ℕ) (m : Marks) → marks_at s part ≡ Some m → next_of s.parts part ≡ m.next
 next_at s part m e = ap (λ o. unwrap_or (option_map (λ (x : Marks). x.next) o) 0) e
 
-pub units_fit : UnitsFitState
-unfolding units_of_parts
-units_fit s held limits tiled rising order = record {
-  once = distinct_join (owed_units s.parts held limits) (new_units s.parts held limits)
-      (owed_all_distinct held limits s.parts rising (λ e h. (tiled.tiled e.0 e.1 (at_from_member s.parts e.0 e.1 rising h)).owed))
-      (runs_distinct (new_units s.parts held limits) fresh (λ q. (next_of s.parts q, new_follow s.parts held limits q order)))
+-- the open ranges fit, with new units that follow each other in each partition from its next
+pub owed_and_new_fit : (listed : List ℕ → Bool) (parts : Table Marks) (new : List WorkUnit) → IsInByteOrder (names_of parts)
+    → ((part : List ℕ) (m : Marks) → at_name parts part ≡ Some m → Tiled m) → ((u : WorkUnit) → Contains new u → u.fresh ≡ true)
+    → ((q : List ℕ) → AreAdjacentFrom (next_of parts q) (fresh_in q new)) → UnitsFit parts (range_units listed parts ++ new)
+owed_and_new_fit listed parts new rising tiled fresh follow = record {
+  once = distinct_join (range_units listed parts) new
+      (owed_all_distinct listed parts rising (λ e h. (tiled e.0 e.1 (at_from_member parts e.0 e.1 rising h)).owed))
+      (runs_distinct new fresh (λ q. (next_of parts q, follow q)))
       cross;
-  owed = λ u h old. ⊎_elim (λ k. is_owed u k) (λ k. absurd (let f : u.fresh ≡ true = fresh u k in cc)) (Contains-append_cases (owed_units s.parts held limits) (new_units s.parts held limits) u h);
-  fresh = λ q. subst (AreAdjacentFrom (next_of s.parts q)) (sym (filter-append (is_new_in q) (owed_units s.parts held limits) (new_units s.parts held limits) ∙ ap (λ us. us ++ fresh_in q (new_units s.parts held limits)) (no_fresh held limits q s.parts))) (new_follow s.parts held limits q order);
+  owed = λ u h old. ⊎_elim (λ k. is_owed u k) (λ k. absurd (let f : u.fresh ≡ true = fresh u k in cc)) (Contains-append_cases (range_units listed parts) new u h);
+  fresh = λ q. subst (AreAdjacentFrom (next_of parts q)) (sym (filter-append (is_new_in q) (range_units listed parts) new ∙ ap (λ us. us ++ fresh_in q new) (no_fresh listed q parts))) (follow q);
 }
   where
-    fresh : (u : WorkUnit) → Contains (new_units s.parts held limits) u → u.fresh ≡ true
-    fresh u h = let n = new_member s.parts held limits u h in sym (ap (λ (x : WorkUnit). x.fresh) n.is)
-
-    is_owed : (u : WorkUnit) → Contains (owed_units s.parts held limits) u → IsOwed s.parts u
+    is_owed : (u : WorkUnit) → Contains (range_units listed parts) u → IsOwed parts u
     is_owed u h =
-        let o = old_member s.parts held limits u h in
-        subst (IsOwed s.parts) o.is (o.entry.1, at_from_member s.parts o.entry.0 o.entry.1 rising o.there, o.owed)
+        let o = range_member listed parts u h in
+        subst (IsOwed parts) o.is (o.entry.1, at_from_member parts o.entry.0 o.entry.1 rising o.there, o.owed)
 
-    cross : (u v : WorkUnit) → Contains (owed_units s.parts held limits) u → Contains (new_units s.parts held limits) v → same_unit u v ≡ false
+    cross : (u v : WorkUnit) → Contains (range_units listed parts) u → Contains new v → same_unit u v ≡ false
     cross u v h k = elim (bytes_eq u.part v.part) as (λ b. bytes_eq u.part v.part ≡ b → same_unit u v ≡ false) [
       | false ↦ λ e. ap (λ b. b && same_span (span_of u) (span_of v)) e
       | true ↦ λ e.
           let o = is_owed u h in
           let same = same_name u.part v.part e in
-          let low = owed_below o.0 (tiled.tiled u.part o.0 o.1) (span_of u) o.2 in
-          let some = (order_members 0 o.0.owed (span_of u) (tiled.tiled u.part o.0 o.1).owed o.2).1 in
-          let in_it : Contains (fresh_in v.part (new_units s.parts held limits)) v = filter_in (is_new_in v.part) (new_units s.parts held limits) v k (and_from _ _ (fresh v k) (name_itself v.part)) in
-          let high = (follow_above (next_of s.parts v.part) (fresh_in v.part (new_units s.parts held limits)) v (new_follow s.parts held limits v.part order) in_it).0 in
-          let next : next_of s.parts v.part ≡ o.0.next = ap (next_of s.parts) (sym same) ∙ next_at s u.part o.0 o.1 in
+          let low = owed_below o.0 (tiled u.part o.0 o.1) (span_of u) o.2 in
+          let some = (order_members 0 o.0.owed (span_of u) (tiled u.part o.0 o.1).owed o.2).1 in
+          let in_it : Contains (fresh_in v.part new) v = filter_in (is_new_in v.part) new v k (and_from _ _ (fresh v k) (name_itself v.part)) in
+          let high = (follow_above (next_of parts v.part) (fresh_in v.part new) v (follow v.part) in_it).0 in
+          let next : next_of parts v.part ≡ o.0.next = ap (next_of parts) (sym same) ∙ ap (λ p. unwrap_or (option_map (λ (x : Marks). x.next) p) 0) o.1 in
           other_lo u v (omega (arith, low, some, high))
     ] refl
+
+pub units_fit : UnitsFitState
+unfolding units_of_parts
+units_fit s held limits tiled rising order =
+    owed_and_new_fit (is_listed held limits) s.parts (new_units s.parts held limits) rising tiled.tiled
+    (λ u h. let n = new_member s.parts held limits u h in sym (ap (λ (x : WorkUnit). x.fresh) n.is)) (λ q. new_follow s.parts held limits q order)
 
 -- ---- whole lines
 

@@ -1,32 +1,33 @@
 -- Nothing is lost: what isn't done is owed, or new.
-use Rattle.std.proofs.Common.{◌≡◌, ◌⊎◌, ◌↔◌, inl, inr, ⊎_elim, ℕ, ◌+◌, ◌<◌, ◌≤◌, Bool, true, false, ◌||◌, nat_lt, List}
+use Rattle.std.proofs.Common.{◌≡◌, ◌⊎◌, ◌↔◌, inl, inr, ⊎_elim, ℕ, ◌+◌, ◌<◌, ◌≤◌, Bool, true, false, ◌||◌, cond, is_some, nat_lt, List}
 use Rattle.std.proofs.Common.{[], ◌∷◌, ◌++◌, map, length, refl, sym, ap, subst, ◌∙◌, Some, None, unwrap_or, option_map}
 use Rattle.std.proofs.Common.{arith}
 use Rattle.std.specs.declared.option.Option.{Option}
 use Rattle.std.specs.List.{Contains, IsDistinct, list_any, range_with_len}
 use Rattle.std.specs.Str.{IsUtf8}
-use Rattle.std.proofs.lemmas.Bool.{lt-ltb, le-ltb, and_from, cases_lt, or_parts}
+use Rattle.std.proofs.lemmas.Bool.{lt-ltb, le-ltb, ltb-false, and_from, and_parts, cases_lt, or_parts}
 use Rattle.std.proofs.lemmas.List.Elements.{All-contains, All-map, All-nil, Contains-append_left, Contains-append_cases}
 use Rattle.std.proofs.lemmas.List.FromFn.{length-map-range_with_len}
 use Rattle.std.proofs.lemmas.Option.{none-some}
 use Rattle.gob_bytes.specs.Lines.{line_ends}
-use Rattle.gob_bytes.specs.Tables.{at_name, names_of, IsInByteOrder}
+use Rattle.gob_bytes.specs.Tables.{Table, at_name, names_of, IsInByteOrder}
 use Rattle.gob_bytes.proofs.Cuts.{lines_fill}
 use Rattle.gob_bytes.proofs.Tables.{at_from_member, member_from_at, name_itself}
-use Rattle.gob_device.specs.Supply.{Held, IsEntry, listing_of}
+use Rattle.gob_device.specs.Supply.{Held, IsEntry, bytes_at, listing_of}
 use Rattle.gob_plan.specs.declared.plan.Limits.{Limits}
 use Rattle.gob_plan.specs.declared.units.Unit.{Unit as WorkUnit}
 use Rattle.gob_ledger.specs.Marks.{Marks, Span, Done, Tiled, done_spans, has, is_done}
 use Rattle.gob_ledger.specs.State.{State, TiledState, marks_at, no_branch, no_counts}
-use Rattle.gob_ledger.specs.Units.{fresh_in, is_kept, new_units, next_of, owed_unit, owed_units, span_of, units_of}
+use Rattle.gob_ledger.specs.Units.{first_shrunk, fresh_in, is_kept, is_listed, new_units, next_of, owed_unit, owed_units, span_of, units_of}
 use Rattle.gob_ledger.specs.Units.{units_of_parts}
 use Rattle.gob_ledger.specs.Next.{no_marks}
 use Rattle.gob_ledger.specs.Delta.{marks_or_none}
 use Rattle.gob_ledger.specs.Spelling.{SmallBranch, IsKeptPipeline}
 use Rattle.gob_ledger.specs.Laws.{ProperUnit}
 use Rattle.gob_ledger.specs.UnitLaws.{EmptyIsProper, IsOwedOrNew, NothingIsLost, UnitsAreOwedOrNew, UnitsAreProper}
+use Rattle.gob_ledger.specs.UnitLaws.{ListedUnitsAreHeld}
 use Rattle.gob_ledger.specs.UnitLaws.{UnitsHaveBytes, new, old}
-use Rattle.gob_ledger.proofs.Members.{none_in, filter_in, map_in, flat_map_in}
+use Rattle.gob_ledger.proofs.Members.{in_cases, none_in, filter_in, map_in, flat_map_in}
 use Rattle.gob_ledger.proofs.Ranges.{covered-is, order_members, owed_below, tiled_none, times, times_some}
 use Rattle.gob_ledger.proofs.Counting.{one_if}
 use Rattle.gob_ledger.proofs.Cutting.{cuts_lie, follow_above, is_new_in, new_follow, new_member, old_member}
@@ -177,6 +178,43 @@ units_bytes s held limits tiled rising order u h listed = some (units_are s held
     some (old same owed) = (order_members 0 (marks_or_none s u.part).owed (span_of u)
         (tiled_at s u.part tiled).0.owed owed).1
     some (new fresh l kept bytes at fits above below) = below
+
+-- ---- what is held
+
+pub none_shrunk : (parts : Table Marks) (listing : Table ℕ) (e : List ℕ × ℕ) → first_shrunk parts listing ≡ None → Contains listing e → next_of parts e.0 ≤ e.1
+none_shrunk parts [] e none h = none_in e h
+none_shrunk parts (d ∷ ds) e none h = cases (nat_lt d.1 (next_of parts d.0)) refl none (none_shrunk parts ds e)
+  where
+    cases : (b : Bool) → nat_lt d.1 (next_of parts d.0) ≡ b → cond b (Some d) (first_shrunk parts ds) ≡ None
+        → (first_shrunk parts ds ≡ None → Contains ds e → next_of parts e.0 ≤ e.1) → next_of parts e.0 ≤ e.1
+    cases true is none later = absurd (none-some d (sym none))
+    cases false is none later = ⊎_elim
+        (λ same. subst (λ (x : List ℕ × ℕ). next_of parts x.0 ≤ x.1) same (ltb-false d.1 (next_of parts d.0) is))
+        (later none) (in_cases d ds e h)
+
+pub listed_held : ListedUnitsAreHeld
+listed_held s held limits u tiled rising order whole h listed = cases (units_are s held limits u tiled rising order h)
+  where
+    length_at : (bytes : List ℕ) → at_name held u.part ≡ Some bytes → length bytes ≡ length (bytes_at held u.part)
+    length_at bytes at = ap (λ o. length (unwrap_or o [])) (sym at)
+
+    old_held : (o : Option Marks) → marks_at s u.part ≡ o → Contains (unwrap_or o no_marks).owed (span_of u)
+        → (b : Option (List ℕ)) → at_name held u.part ≡ b → is_some b ≡ true → u.hi ≤ length (bytes_at held u.part)
+    old_held None e k b at there = none_in (span_of u) k
+    old_held (Some m) e k None at there = absurd (let no : false ≡ true = there in cc)
+    old_held (Some m) e k (Some bytes) at there =
+        let below = owed_below m (tiled.tiled u.part m e) (span_of u) k in
+        let next : next_of s.parts u.part ≡ m.next = ap (λ o. unwrap_or (option_map (λ (x : Marks). x.next) o) 0) e in
+        let fits = none_shrunk s.parts (listing_of held) (u.part, length bytes) whole
+        (map_in (λ e. (e.0, length e.1)) held (u.part, bytes) (member_from_at held u.part bytes at)) in
+        omega (arith, below, next, fits, length_at bytes at)
+
+    cases : IsOwedOrNew s held limits u → u.hi ≤ length (bytes_at held u.part)
+    cases (old same owed) =
+        let known : is_listed held limits u.part ≡ true = sym (ap (λ (x : WorkUnit). x.listed) same) ∙ listed in
+        old_held (marks_at s u.part) refl owed (at_name held u.part) refl
+        (and_parts (is_some (at_name held u.part)) (is_kept limits u.part) known).0
+    cases (new fresh l kept bytes at fits above below) = omega (arith, fits, length_at bytes at)
 
 -- ---- what can be kept
 

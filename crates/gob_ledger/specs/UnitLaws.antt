@@ -1,16 +1,16 @@
 -- The laws of units: nothing is lost, and what is kept stays proper.
 use Rattle.std.specs.Prelude.{◌≡◌, ◌⊎◌, ◌↔◌, ℕ, ◌<◌, ◌≤◌, true, false, List, length}
-use Rattle.std.specs.declared.option.Option.TheVariants.{Some}
+use Rattle.std.specs.declared.option.Option.TheVariants.{None, Some}
 use Rattle.std.specs.List.{All, Contains, count_by}
 use Rattle.std.specs.Str.{IsUtf8}
 use Rattle.gob_bytes.specs.Lines.{line_ends}
 use Rattle.gob_bytes.specs.Tables.{at_name, names_of, IsInByteOrder}
-use Rattle.gob_device.specs.Supply.{Held, IsListed, listing_of}
+use Rattle.gob_device.specs.Supply.{Held, IsListed, bytes_at, listing_of}
 use Rattle.gob_plan.specs.declared.plan.Limits.{Limits}
 use Rattle.gob_plan.specs.declared.units.Unit.{Unit as WorkUnit}
 use Rattle.gob_ledger.specs.Marks.{Span, has, is_done}
 use Rattle.gob_ledger.specs.State.{State, TiledState, empty_state}
-use Rattle.gob_ledger.specs.Units.{is_kept, next_of, owed_unit, span_of, units_of}
+use Rattle.gob_ledger.specs.Units.{first_shrunk, is_kept, next_of, owed_unit, span_of, units_of}
 use Rattle.gob_ledger.specs.Delta.{marks_or_none}
 use Rattle.gob_ledger.specs.Spelling.{Proper}
 use Rattle.gob_ledger.specs.Laws.{ProperUnit}
@@ -75,3 +75,10 @@ abbrev pub UnitsAreProper : Type 0
 UnitsAreProper = (s : State) (held : Held) (limits : Limits) (u : WorkUnit)
     → Proper s → IsListed (listing_of held) → All (λ e. IsUtf8 e.0) held
     → Contains (units_of s held limits) u → ProperUnit u
+
+-- each listed unit of a run lies within what is held, where no partition is shorter than what was taken of it
+abbrev pub ListedUnitsAreHeld : Type 0
+ListedUnitsAreHeld = (s : State) (held : Held) (limits : Limits) (u : WorkUnit)
+    → TiledState s → IsInByteOrder (names_of s.parts) → IsInByteOrder (names_of held)
+    → first_shrunk s.parts (listing_of held) ≡ None
+    → Contains (units_of s held limits) u → u.listed ≡ true → u.hi ≤ length (bytes_at held u.part)

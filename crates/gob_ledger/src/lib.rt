@@ -5,7 +5,7 @@
 ghost use Rattle.gob_ledger.specs.Examples.{WorkedExamples};
 ghost use Rattle.gob_ledger.specs.Laws.{ChangesAreNumbered, GroupsAreGrouping, GrownArchive, KeptNextIsProper, NextExpects, NextFollows, NextInOrder, NextIsProper, NextTiles, NextTotals, NextWithin, OthersStillFit, UnitsFitState, UnitsLieOnLines};
 ghost use Rattle.gob_ledger.specs.TurnLaws.{BoundsSuffice, GivingUpTakesFailures, NoFailureNoFault, OnlyListedHaveTurns, OwnPullsArePieces, TurnsAreFew, TurnsAreScheduled, UnitsPullTheirOwn};
-ghost use Rattle.gob_ledger.specs.UnitLaws.{EmptyIsProper, NewUnitsReachTheEnd, NothingIsLost, UnitsAreOwedOrNew, UnitsAreProper, UnitsHaveBytes};
+ghost use Rattle.gob_ledger.specs.UnitLaws.{EmptyIsProper, ListedUnitsAreHeld, NewUnitsReachTheEnd, NothingIsLost, UnitsAreOwedOrNew, UnitsAreProper, UnitsHaveBytes};
 ghost use Rattle.gob_ledger.specs.WorkedRuns.{WorkedRuns};
 ghost use Rattle.gob_ledger.specs.WorkedUnits.{WorkedUnits};
 ghost use Rattle.gob_ledger.specs.WorkedTurns.{WorkedTurns};
@@ -156,6 +156,11 @@ pub fn empty_state_is_proper()
 /// The units of a run over a state that can be kept can be kept.
 pub fn units_are_proper()
     ensures { UnitsAreProper }
+{}
+
+/// Each listed unit of a run ends within what is held, where no partition shrank.
+pub fn listed_units_are_held()
+    ensures { ListedUnitsAreHeld }
 {}
 
 /// What runs over small partitions make, by computing.

@@ -1,13 +1,13 @@
 -- For every cut of a unit's bytes into pieces, a machine makes the same.
-use Rattle.std.specs.Prelude.{◌≡◌, ℕ, true, false, not, ◌||◌, List, [], ◌∷◌, ◌++◌, length}
+use Rattle.std.specs.Prelude.{◌≡◌, ℕ, Bool, true, false, not, ◌||◌, ◌&&◌, nat_lt, List, [], ◌∷◌, ◌++◌, length}
 use Rattle.std.specs.declared.option.Option.TheVariants.{None, Some}
 use Rattle.gob_bytes.specs.Lines.{Line, raw_of, has_no_feed}
 use Rattle.gob_plan.specs.declared.units.Cause.{Cause}
-use Rattle.std.specs.List.{flat_map}
+use Rattle.std.specs.List.{flat_map, list_all}
 use Rattle.gob_plan.specs.declared.plan.Plan.{Plan}
 use Rattle.gob_meaning.specs.Items.{Target, LineMade, line_made}
-use Rattle.gob_meaning.specs.Fold.{sent_to}
-use Rattle.gob_pipeline.specs.Made.{Buffers, buffer_of}
+use Rattle.gob_meaning.specs.Fold.{Delivery, sent_to, same_target}
+use Rattle.gob_pipeline.specs.Made.{Buffers, AddsTo, AreEmpty, AreSlots, buffer_of, filled, is_placed, slot_of}
 use Rattle.gob_pipeline.specs.Machine.{MachineValue, is_nil, WasFed, sent_before_stop, Fed, LineTaken, line_start}
 use Rattle.gob_pipeline.specs.Machine.{GoesOn}
 
@@ -51,3 +51,31 @@ abbrev pub BytesBehindAStopAreFed : Type 0
 BytesBehindAStopAreFed = (plan : Plan) (old new : MachineValue) (x : List ℕ) (c : Cause) (b : Buffers)
     → has_no_feed x ≡ true → old.stop ≡ Some c → GoesOn old new (length (x ++ 10 ∷ [])) false → new.stop ≡ old.stop
     → Fed plan old new (x ++ 10 ∷ []) b b
+
+-- ---- what is in the buffers
+
+abbrev pub has_bytes : List ℕ → Bool
+has_bytes bytes = not (is_nil bytes)
+
+-- no two of these have one target
+abbrev pub all_apart : List Delivery → Bool
+all_apart [] = true
+all_apart (d ∷ ds) = list_all (λ e. not (same_target d.target e.target)) ds && all_apart ds
+
+-- the targets that have bytes, each once and with all its bytes, have places that a name can have and slots that are
+-- there
+pub record IsFilled (buffers : Buffers) : Type 0 where
+  pub sent : (t : Target) → sent_to t (filled buffers) ≡ buffer_of buffers t
+  pub placed : list_all (λ d. is_placed d.target) (filled buffers) ≡ true
+  pub within : list_all (λ d. nat_lt (slot_of d.target) (length buffers)) (filled buffers) ≡ true
+  pub some : list_all (λ d. has_bytes d.bytes) (filled buffers) ≡ true
+  pub apart : all_apart (filled buffers) ≡ true
+
+abbrev pub FilledBuffersAreSent : Type 0
+FilledBuffersAreSent = (buffers : Buffers) → AreSlots buffers → IsFilled buffers
+
+-- what was added to empty buffers is what is in them: who appends each of them to its target's file has appended to
+-- each target what was sent to it
+abbrev pub PiecesFillBuffers : Type 0
+PiecesFillBuffers = (before after : Buffers) (given : List Delivery) → AreEmpty before → AddsTo before after given
+    → AreSlots after → (t : Target) → sent_to t given ≡ sent_to t (filled after)

@@ -1,2 +1,2 @@
-mod Rising
+pub mod Rising
 mod Following

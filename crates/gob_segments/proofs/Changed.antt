@@ -61,29 +61,26 @@ same_done-itself : (d : Done) → same_done d d ≡ true
 same_done-itself d = and_from (same_span d.span d.span) (nat_eq d.pipeline d.pipeline) (same_itself d.span)
     (grind (arith, nat_tests))
 
-behind : (from : ℕ) (ds : List Done) (d : Done) → InOrder from (spans ds) → Contains ds d → from ≤ d.span.lo
-behind from ds d order h = (order_members from (spans ds) d.span order (map_in (λ (e : Done). e.span) ds d h)).0
-
--- an offset lies in one done range alone
-one_holds : (at from : ℕ) (ds : List Done) (d e : Done) → InOrder from (spans ds) → Contains ds d → Contains ds e
-    → has at d.span ≡ true → has at e.span ≡ true → d ≡ e
-one_holds at from [] d e order h k x y = none_in d h
-one_holds at from (f ∷ fs) d e (a, b, c) h k x y = ⊎_elim
+-- an offset lies in one range of a list in order alone
+pub one_holds : {X : Type 0} (f : X → Span) (at from : ℕ) (xs : List X) (x y : X) → InOrder from (map f xs)
+    → Contains xs x → Contains xs y → has at (f x) ≡ true → has at (f y) ≡ true → x ≡ y
+one_holds f at from [] x y order h k p q = none_in x h
+one_holds {X} f at from (z ∷ zs) x y (a, b, c) h k p q = ⊎_elim
     (λ same. ⊎_elim
     (λ alike. sym same ∙ alike)
-    (λ l. absurd (apart e l (subst (λ (g : Done). has at g.span ≡ true) (sym same) x) y))
-    (in_cases f fs e k))
+    (λ l. absurd (apart y l (subst (λ (w : X). has at (f w) ≡ true) (sym same) p) q))
+    (in_cases z zs y k))
     (λ l. ⊎_elim
-    (λ alike. absurd (apart d l (subst (λ (g : Done). has at g.span ≡ true) (sym alike) y) x))
-    (λ m. one_holds at f.span.hi fs d e c l m x y)
-    (in_cases f fs e k))
-    (in_cases f fs d h)
+    (λ alike. absurd (apart x l (subst (λ (w : X). has at (f w) ≡ true) (sym alike) q) p))
+    (λ m. one_holds f at (f z).hi zs x y c l m p q)
+    (in_cases z zs y k))
+    (in_cases z zs x h)
   where
-    apart : (g : Done) → Contains fs g → has at f.span ≡ true → has at g.span ≡ true → ⊥
-    apart g l p q =
-        let low = behind f.span.hi fs g c l in
-        let u = within at f.span p in
-        let v = within at g.span q in
+    apart : (w : X) → Contains zs w → has at (f z) ≡ true → has at (f w) ≡ true → ⊥
+    apart w l r t =
+        let low = (order_members (f z).hi (map f zs) (f w) c (map_in f zs w l)).0 in
+        let u = within at (f z) r in
+        let v = within at (f w) t in
         omega (arith, low, u.1, v.0)
 
 -- a done range of the later marks was done exactly where the earlier ones cover its beginning
@@ -108,7 +105,7 @@ known-done before after d follow tiled later there =
     known : is_done d.span.lo before ≡ true → list_any (same_done d) before.finished ≡ true
     known e =
         let r = any_some (λ (x : Done). has d.span.lo x.span) before.finished e in
-        let same : d ≡ r.0 = one_holds d.span.lo 0 after.finished d r.0 later.finished there
+        let same : d ≡ r.0 = one_holds (λ (e : Done). e.span) d.span.lo 0 after.finished d r.0 later.finished there
         (follow.finished r.0 r.1) itself r.2 in
         some_any (same_done d) before.finished r.0 r.1
         (subst (λ (x : Done). same_done d x ≡ true) same (same_done-itself d))

@@ -1,3 +1,10 @@
 pub mod Changed
 pub mod Kept
+pub mod Loads
 pub mod Named
+pub mod Parted
+pub mod Piped
+pub mod Put
+pub mod PutAll
+pub mod PutLines
+pub mod Stated

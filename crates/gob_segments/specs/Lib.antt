@@ -1,2 +1,4 @@
+pub mod Applied
 pub mod Changes
+pub mod Loading
 pub mod Written

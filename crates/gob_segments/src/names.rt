@@ -1,7 +1,7 @@
 //! The names of the files that tell a job's state.
 ghost use Rattle.std.specs.Prelude.{◌≡◌, ◌++◌, IfOk, OnOk};
 ghost use Rattle.std.specs.Str.{IsUtf8};
-ghost use Rattle.gob_bytes.specs.Paths.{delta_name, state_name};
+ghost use Rattle.gob_bytes.specs.Paths.{delta_folder, delta_name, state_name};
 
 use gob_plan::{NoMemory, Text};
 use gob_text::push_offset;
@@ -13,6 +13,15 @@ pub fn state_file_name(alloc: Global, job: &str) -> Result<Text, NoMemory>
 {
     let mut name = Text::from_str(alloc, job)?;
     name.push("/state")?;
+    Ok(name)
+}
+
+/// The folder of changes, with a slash at its end.
+pub fn delta_folder_name(alloc: Global, job: &str) -> Result<Text, NoMemory>
+    ensures { IfOk result (λ name. name ≡ delta_folder job.now) }
+{
+    let mut name = Text::from_str(alloc, job)?;
+    name.push("/delta/")?;
     Ok(name)
 }
 

@@ -96,8 +96,8 @@ pub fn commit_part<V: Volume>(
     Ok(())
 }
 
-// Makes a file with these bytes, all of them kept.
-fn write_file<V: Volume>(volume: &mut V, name: &str, bytes: &[u8]) -> Result<(), Failed>
+/// Makes a file with these bytes, all of them kept, in place of what was there.
+pub fn write_file<V: Volume>(volume: &mut V, name: &str, bytes: &[u8]) -> Result<(), Failed>
     requires named { IsPathname name.now }
     ensures only { Along (OnlyAt name.now) (V.disk volume.old) (V.disk volume.new) }
     ensures ok { OnOk result (AddsMaps (EndsAs (after_write name.now bytes.now))

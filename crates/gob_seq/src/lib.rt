@@ -11,7 +11,7 @@ mod staging;
 mod steps;
 mod write;
 
-pub use commits::{commit, commit_part, is_ready};
+pub use commits::{commit, commit_part, is_ready, write_file};
 pub use faults::{CommitFault, SettleFault};
 pub use read::read_sequence;
 pub use sequence::{SeqStep, Sequence};

@@ -93,14 +93,14 @@ rest_pairing v = record {
 
 -- ---- a proper state
 
-named : (name : List ℕ) → 0 < length name → name ≢ []
+pub named : (name : List ℕ) → 0 < length name → name ≢ []
 named name some e = let size = ap length e in omega arith
 
-has_bytes : (name : List ℕ) → name ≢ [] → 0 < length name
+pub has_bytes : (name : List ℕ) → name ≢ [] → 0 < length name
 has_bytes [] some = absurd (some refl)
 has_bytes (b ∷ bs) some = omega arith
 
-few_of : (v : Version) (n : ℕ) → CountFits v n → Small n
+pub few_of : (v : Version) (n : ℕ) → CountFits v n → Small n
 few_of version_1 n f = let one : n ≡ 1 = f in omega arith
 few_of version_2 n f = f
 
@@ -108,11 +108,11 @@ version_fits : (v : Version) (s : states.State) → CountFits v (length s.pipeli
 version_fits version_1 s f = f
 version_fits version_2 s f = tt
 
-count_fits : (v : Version) (s : states.State) → Proper s → FitsVersion v s → CountFits v (length s.pipelines)
+pub count_fits : (v : Version) (s : states.State) → Proper s → FitsVersion v s → CountFits v (length s.pipelines)
 count_fits version_1 s p f = f
 count_fits version_2 s p f = p.few
 
-index_is : (v : Version) (s : states.State) (i : ℕ) → Proper s → FitsVersion v s → i < length s.pipelines → IndexIs v i
+pub index_is : (v : Version) (s : states.State) (i : ℕ) → Proper s → FitsVersion v s → i < length s.pipelines → IndexIs v i
 index_is version_1 s i p f below = let one : length s.pipelines ≡ 1 = f in omega arith
 index_is version_2 s i p f below = let few = p.few in omega arith
 
@@ -203,7 +203,7 @@ version_back : (v : Version) → version_of (code_of v) ≡ v
 version_back version_1 = refl
 version_back version_2 = refl
 
-no_part_at_end : (after : List ℕ) → NoPart (codes "end\n" ++ after)
+pub no_part_at_end : (after : List ℕ) → NoPart (codes "end\n" ++ after)
 no_part_at_end after = record {
   no_range = record {
     no_done = λ x e. let n : ◌≡◌ {A = ℕ} 101 100 = cc in absurd (omega (arith, n));

@@ -44,14 +44,14 @@ IsNextPart v n es e = IsPart v n e × IsInByteOrder (names_of es ++ e.0 ∷ [])
 pub SomeParts : Version → ℕ → List ℕ → List ℕ → Table Marks → Type 0
 SomeParts v n old rest es = Along (part_text v) (AreParts v n) (AreParts v n) NoPart old rest es
 
-order_front : (es : Table Marks) (z : List ℕ × Marks) (zs : Table Marks) → IsInByteOrder (names_of (es ++ z ∷ zs))
+pub order_front : (es : Table Marks) (z : List ℕ × Marks) (zs : Table Marks) → IsInByteOrder (names_of (es ++ z ∷ zs))
     → IsInByteOrder (names_of es ++ z.0 ∷ [])
 order_front [] z zs order = tt
 order_front (e ∷ []) z [] order = order
 order_front (e ∷ []) z (y ∷ zs) order = (order.0, tt)
 order_front (e ∷ d ∷ es) z zs order = (order.0, order_front (d ∷ es) z zs order.1)
 
-names_push : (es : Table Marks) (e : List ℕ × Marks) → names_of (es ++ e ∷ []) ≡ names_of es ++ e.0 ∷ []
+pub names_push : (es : Table Marks) (e : List ℕ × Marks) → names_of (es ++ e ∷ []) ≡ names_of es ++ e.0 ∷ []
 names_push [] e = refl
 names_push (d ∷ es) e = ap (λ (ns : List (List ℕ)). d.0 ∷ ns) (names_push es e)
 

@@ -35,23 +35,23 @@ abbrev pub range_of : RangeLine → Range
 range_of (Done d) = inl d
 range_of (Open s) = inr s
 
-abbrev line_of : Range → RangeLine
+abbrev pub line_of : Range → RangeLine
 line_of (inl d) = Done d
 line_of (inr s) = Open s
 
 abbrev pub range_bytes : Version → Range → List ℕ
 range_bytes v r = line_bytes (range_words v r)
 
-range_spelled : (v : Version) (l : RangeLine) → range_text v l ≡ range_bytes v (range_of l)
+pub range_spelled : (v : Version) (l : RangeLine) → range_text v l ≡ range_bytes v (range_of l)
 range_spelled version_1 (Done d) = refl
 range_spelled version_2 (Done d) = refl
 range_spelled v (Open s) = refl
 
-spelled_back : (v : Version) (r : Range) → range_bytes v r ≡ range_text v (line_of r)
+pub spelled_back : (v : Version) (r : Range) → range_bytes v r ≡ range_text v (line_of r)
 spelled_back v (inl d) = sym (range_spelled v (Done d))
 spelled_back v (inr s) = sym (range_spelled v (Open s))
 
-line_back : (r : Range) → range_of (line_of r) ≡ r
+pub line_back : (r : Range) → range_of (line_of r) ≡ r
 line_back (inl d) = refl
 line_back (inr s) = refl
 
@@ -86,11 +86,11 @@ second_renaming = record {
 }
 
 -- what is to hold of the next range behind marks that end here
-abbrev FitsNext : Version → ℕ → ℕ → Range → Type 0
+abbrev pub FitsNext : Version → ℕ → ℕ → Range → Type 0
 FitsNext v n next (inl d) = IsDoneLine v d × (d.span.lo ≡ next) × (d.span.lo < d.span.hi) × (d.pipeline < n)
 FitsNext v n next (inr s) = IsOpenLine s × (s.lo ≡ next) × (s.lo < s.hi)
 
-fits_line : (v : Version) (n next : ℕ) (r : Range) → FitsNext v n next r → IsRangeLine v (line_of r)
+pub fits_line : (v : Version) (n next : ℕ) (r : Range) → FitsNext v n next r → IsRangeLine v (line_of r)
 fits_line v n next (inl d) f = f.0
 fits_line v n next (inr s) f = f.0
 
@@ -98,7 +98,7 @@ fits_goes_on : (v : Version) (n : ℕ) (m : Marks) (r : Range) → FitsNext v n 
 fits_goes_on v n m (inl d) f = (f.1, f.2, f.3)
 fits_goes_on v n m (inr s) f = (f.1, f.2)
 
-both_fit : (v : Version) (n : ℕ) (m : Marks) (l : RangeLine) → IsRangeLine v l → GoesOn n m l → FitsNext v n m.next
+pub both_fit : (v : Version) (n : ℕ) (m : Marks) (l : RangeLine) → IsRangeLine v l → GoesOn n m l → FitsNext v n m.next
     (range_of l)
 both_fit v n m (Done d) f g = (f, g.0, g.1, g.2)
 both_fit v n m (Open s) f g = (f, g.0, g.1)
@@ -141,7 +141,7 @@ map_lines v [] = refl
 map_lines v (r ∷ rs) = ap (λ t. range_bytes v r ++ t) (map_lines v rs)
 
 -- the lines of marks are those of their ranges
-ranges_spelled : (v : Version) (m : Marks) → ranges_text v m ≡ flat_map (range_bytes v) (mixed m.finished m.owed)
+pub ranges_spelled : (v : Version) (m : Marks) → ranges_text v m ≡ flat_map (range_bytes v) (mixed m.finished m.owed)
 ranges_spelled v m =
     let front : List ℕ = words (codes "partition") (escaped [] ∷ decimal m.next ∷ []) in
     let rs : List Range = mixed m.finished m.owed in
@@ -216,7 +216,7 @@ gathered_put d (inr s ∷ rs) above = elim (nat_lt d.span.lo s.lo) as
     ]
 
 -- mixed ranges are parted again
-gathered_back : (from : ℕ) (ds : List marks.Done) (os : List Span) → InOrder from (map (λ (d : marks.Done). d.span) ds)
+pub gathered_back : (from : ℕ) (ds : List marks.Done) (os : List Span) → InOrder from (map (λ (d : marks.Done). d.span) ds)
     → gathered (mixed ds os) ≡ record { next = 0; finished = ds; owed = os }
 gathered_back from [] os order = each os
   where
@@ -271,7 +271,7 @@ abbrev Whole : Version → ℕ → List Range → Type 0
 Whole v n rs = (m : Marks) × AreMarks v n m × (rs ≡ mixed m.finished m.owed)
 
 -- the index is right of each done range
-abbrev HasIndex : Version → ℕ → Range → Type 0
+abbrev pub HasIndex : Version → ℕ → Range → Type 0
 HasIndex v n (inl d) = (d.pipeline < n) × IndexIs v d.pipeline
 HasIndex v n (inr s) = Unit {0}
 
@@ -325,7 +325,7 @@ index_of : (v : Version) (n : ℕ) (m : Marks) (l : RangeLine) → IsRangeLine v
 index_of v n m (Done d) f g = (g.2, f.2)
 index_of v n m (Open s) f g = tt
 
-small_hi : (v : Version) (l : RangeLine) → IsRangeLine v l → Small (span_in (range_of l)).hi
+pub small_hi : (v : Version) (l : RangeLine) → IsRangeLine v l → Small (span_in (range_of l)).hi
 small_hi v (Done d) f = f.1
 small_hi v (Open s) f = f.1
 
@@ -388,7 +388,7 @@ done_indexed v n (inl e ∷ rs) all d h = ⊎_elim
     (in_cases e (gathered rs).finished d h)
 done_indexed v n (inr s ∷ rs) all d h = done_indexed v n rs all.1 d h
 
-begins_line : (v : Version) (z : Range) (after : List ℕ) (text : List ℕ) → text ≡ range_bytes v z ++ after
+pub begins_line : (v : Version) (z : Range) (after : List ℕ) (text : List ℕ) → text ≡ range_bytes v z ++ after
     → NoRange text → ⊥
 begins_line version_1 (inl d) after text e none = none.no_done (done_numbers version_1 d ++ after) e
 begins_line version_2 (inl d) after text e none = none.no_done (done_numbers version_2 d ++ after) e

@@ -14,9 +14,14 @@ mod state;
 mod version;
 mod write;
 
-pub use next::{Outcome, empty_state, next_state};
+pub use counts::take_totals;
+pub use lines::take_numbered;
+pub use next::{Outcome, are_good, empty_state, is_allowed, is_any_allowed, is_good, next_state};
+pub use parts::take_head;
+pub use pipelines::{has_pipeline, take_pipeline};
 pub use push::{push_numbered, push_part, push_pipelines, push_totals};
+pub use ranges::{RangeLine, take_range};
 pub use read::{read_state, read_versioned};
 pub use state::State;
-pub use version::Version;
+pub use version::{Version, take_version};
 pub use write::write_state;

@@ -56,7 +56,7 @@ pub(crate) fn take_four(text: &mut Words) -> Option<(u64, u64, u64, u64)>
 }
 
 /// A line of this word and a number.
-pub(crate) fn take_numbered(text: &mut Words, word: &[u8]) -> Option<u64>
+pub fn take_numbered(text: &mut Words, word: &[u8]) -> Option<u64>
     ensures { Reads (λ n. numbered word.now (n ∷ [])) (λ n. n < 2 ^ 64) GoesOnAtAll text.old text.new result }
 {
     if !text.take_text(word) {

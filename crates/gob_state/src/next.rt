@@ -57,7 +57,8 @@ pub fn empty_state(alloc: Global, branches: u32) -> Result<State, NoMemory>
     })
 }
 
-fn is_good(made: &UnitResult) -> bool
+/// Whether a unit made something that can be committed.
+pub fn is_good(made: &UnitResult) -> bool
     ensures { result ≡ next.is_good (verdict_in made.now) }
 {
     match made {
@@ -66,7 +67,8 @@ fn is_good(made: &UnitResult) -> bool
     }
 }
 
-fn are_good(results: &[UnitResult]) -> bool
+/// Whether all units are good.
+pub fn are_good(results: &[UnitResult]) -> bool
     ensures { result ≡ list_all next.is_good (verdicts_in results.now) }
 {
     for made in results {
@@ -77,8 +79,8 @@ fn are_good(results: &[UnitResult]) -> bool
     true
 }
 
-// Whether the policy lets a unit be committed, where `all` says whether all are good.
-fn is_allowed(policy: CommitPolicy, all: bool, made: &UnitResult) -> bool
+/// Whether the policy lets a unit be committed, where `all` says whether all of its group are good.
+pub fn is_allowed(policy: CommitPolicy, all: bool, made: &UnitResult) -> bool
     ensures { result ≡ may_commit policy all (verdict_in made.now) }
 {
     match policy {
@@ -87,7 +89,8 @@ fn is_allowed(policy: CommitPolicy, all: bool, made: &UnitResult) -> bool
     }
 }
 
-fn is_any_allowed(policy: CommitPolicy, all: bool, results: &[UnitResult]) -> bool
+/// Whether the policy lets one of these units be committed, where `all` says whether all are good.
+pub fn is_any_allowed(policy: CommitPolicy, all: bool, results: &[UnitResult]) -> bool
     ensures { result ≡ list_any (may_commit policy all) (verdicts_in results.now) }
 {
     for made in results {

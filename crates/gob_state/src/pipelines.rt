@@ -13,8 +13,8 @@ use gob_plan::{List, NoMemory, Text};
 use gob_text::Words;
 use std::alloc::Global;
 
-// The number of a pipeline's lines, and then its lines.
-fn take_pipeline(alloc: Global, text: &mut Words) -> Result<Option<Text>, NoMemory>
+/// The number of a pipeline's lines, and then its lines.
+pub fn take_pipeline(alloc: Global, text: &mut Words) -> Result<Option<Text>, NoMemory>
     ensures { IfOk result (λ taken. Reads pipeline_part IsKeptPipeline GoesOnAtAll text.old text.new taken) }
 {
     let Some(lines) = take_numbered(text, b"pipeline") else {

@@ -1,4 +1,4 @@
-use Rattle.std.proofs.Common.{take, drop, length, ◌-◌, ◌∙◌, arith, length-append, length-drop}
+use Rattle.std.proofs.Common.{take, drop, length, ◌∙◌, arith, length-append, length-drop}
 use Rattle.std.proofs.lemmas.List.{length-take}
 use Rattle.gob_cut.proofs.Looks.{first_found, first_none, first_passed, first_short}
 use Rattle.gob_cut.proofs.ends.first_end.Goals as goal

@@ -1,8 +1,5 @@
-use Rattle.std.proofs.Common.{◌≡◌, ◌+◌, ◌∙◌, Some, None, IfSome, length, min, subst, sym, arith}
-use Rattle.std.specs.declared.option.Option.{Option}
-use Rattle.gob_device.specs.Supply.{bytes_at}
-use Rattle.gob_cut.specs.Ends.{last_between}
-use Rattle.gob_cut.proofs.Looks.{first_is_end, last_is_end, limit_is}
+use Rattle.std.proofs.Common.{◌≡◌, ◌+◌, min, arith}
+use Rattle.gob_cut.proofs.Looks.{first_is_end, last_is_end}
 use Rattle.gob_cut.proofs.ends.next_end.Goals as goal
 
 pub returns-in-Some-clause-end : goal.returns-in-Some-clause-end

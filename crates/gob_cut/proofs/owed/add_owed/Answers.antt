@@ -1,6 +1,6 @@
 use Rattle.std.proofs.Common.{ap, ◌++◌, ◌∙◌, map}
 use Rattle.gob_cut.specs.Rounds.{unit_of_range}
-use Rattle.gob_cut.proofs.Listed.{is_there, owed_step}
+use Rattle.gob_cut.proofs.Listed.{owed_step}
 use Rattle.gob_cut.proofs.owed.add_owed.Goals as goal
 
 pub loop-place-preserved : goal.loop-place-preserved

@@ -1,4 +1,5 @@
 use Rattle.std.proofs.Common.{◌≡◌, ◌+◌, ◌≤◌, ◌<◌, All, length}
+use Rattle.gob_cut.specs.Going.{Goes}
 use Rattle.gob_cut.specs.Rounds.{IsCursor}
 use Rattle.gob_cut.proofs.Taking.{RoundsGo}
 use Rattle.gob_cut.proofs.rounds.add_rounds.Given as goal
@@ -10,6 +11,8 @@ invariant-loop-alloc g l = record {
   supply : g.S.Source.supply l.source ≡ g.S.Source.supply l.fn.source;
   faults : g.S.Source.faults l.fn.source ≤ g.S.Source.faults l.source;
   planned : g.S.Source.plan_faults l.fn.source ≤ g.S.Source.plan_faults l.source;
+  goes : Goes l.fn.kept l.fn.cursors.items l.going.items l.fn.units l.units;
+  count : length l.units + l.left ≡ length l.fn.units + l.fn.most;
   units : RoundsGo (g.S.Source.supply l.fn.source) l.fn.kept l.fn.max l.fn.most l.fn.cursors.items l.fn.units l.left l.going.items l.units;
 }
 

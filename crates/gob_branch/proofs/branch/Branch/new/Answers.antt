@@ -1,0 +1,9 @@
+use Rattle.std.proofs.Common.{◌∙◌}
+use Rattle.gob_branch.proofs.Rows.{branch_is}
+use Rattle.gob_branch.proofs.branch.Branch.new.Goals as goal
+
+pub invariant_of-result : goal.invariant_of-result
+invariant_of-result c =
+    branch_is c.args.spec.now c.in_ok-steps.field-0 c.args.columns.now c.after.result.now c.in_ok-chain.chain
+    c.placing-day.result c.in-Ok.encoder.columns c.in_ok-steps.ensures c.in_ok-chain.ensures c.after.ensures
+    c.requires.fits c.requires.short c.placing-day.ensures (c.in-Ok.ensures.ok.1 ∙ c.after-2.ensures)

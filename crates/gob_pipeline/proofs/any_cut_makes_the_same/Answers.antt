@@ -1,5 +1,0 @@
-use Rattle.gob_pipeline.proofs.Cuts.{any_cut}
-use Rattle.gob_pipeline.proofs.any_cut_makes_the_same.Goals as goal
-
-pub returns : goal.returns
-returns c = any_cut

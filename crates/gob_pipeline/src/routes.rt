@@ -1,0 +1,133 @@
+//! The branches of a plan, and the fork before them.
+ghost use Rattle.std.specs.Prelude.{◌≡◌, ◌<◌, ◌≤◌, ℕ, true, None, Some, length, IfErr, IfOk, OnErr};
+ghost use Rattle.std.specs.List.{list_all};
+ghost use Rattle.gob_plan.specs.Rows.{conforms};
+ghost use Rattle.gob_plan.specs.Tests.{test_fits};
+ghost use Rattle.gob_convert.specs.Made.{concatenation};
+ghost use Rattle.gob_convert.specs.declared.convert.ConvertFault.{ConvertFault as Fault};
+ghost use Rattle.gob_meaning.specs.Plans.{branch_fits, branch_is_short};
+ghost use Rattle.gob_pipeline.specs.Routes.{AreBranches, branch_makes, is_routed, is_taken, route_makes, specs_of};
+
+use gob_branch::{Branch, LineItems, RowScratch};
+use gob_convert::ConvertFault;
+use gob_fork::picks;
+use gob_plan::{BranchSpec, Columns, ForkSpec, NoMemory, Row};
+use std::alloc::Global;
+use std::marker::Model;
+
+/// The branches that rows of the same columns are sent to, each set up once.
+#[derive(Drop)]
+pub struct Routes {
+    fork: ForkSpec,
+    columns: Columns,
+    branches: Vec<Branch>,
+}
+
+impl Model for Routes {
+    ghost use Rattle.std.specs.Prelude.{◌≡◌, ◌<◌, ◌^◌, true, length};
+    ghost use Rattle.std.specs.List.{list_all};
+    ghost use Rattle.gob_plan.specs.Tests.{test_fits};
+    ghost use Rattle.gob_pipeline.specs.Routes.{RoutesValue, AreBranches, specs_of};
+
+    ghost Value = { RoutesValue };
+
+    ghost view = { λ r. record { fork = r.fork; columns = r.columns; branches = specs_of r.branches.items } };
+
+    ghost invariant = { λ r. AreBranches r.columns 0 r.branches.items
+        × (length r.branches.items < 2 ^ 32)
+        × (list_all (λ t. test_fits t r.columns) r.fork.tests ≡ true) };
+}
+
+impl Routes {
+    /// Branches of these specs for rows of these columns.
+    pub fn new(
+        alloc: Global,
+        fork: &ForkSpec,
+        columns: &Columns,
+        specs: &[BranchSpec],
+    ) -> Result<Routes, NoMemory>
+        requires tests { list_all (λ t. test_fits t columns.now) fork.now.tests ≡ true }
+        requires few { length specs.now ≤ 8 }
+        requires fit { list_all (branch_fits columns.now) specs.now ≡ true }
+        requires short { list_all branch_is_short specs.now ≡ true }
+        ensures { IfOk result (λ r. r ≡ record { fork = fork.now; columns = columns.now; branches = specs.now }) }
+    {
+        let branches = branches_of(alloc, columns, specs)?;
+        Ok(Routes {
+            fork: fork.copy()?,
+            columns: columns.copy()?,
+            branches,
+        })
+    }
+
+    /// Adds what the branches that take the row make of it, in their order, and tells whether there is one.
+    pub fn push(
+        &self,
+        alloc: Global,
+        scratch: &mut RowScratch,
+        row: Row,
+        items: &mut LineItems,
+    ) -> Result<bool, ConvertFault>
+        requires { conforms self.now.columns row ≡ true }
+        ensures ok { IfOk result (λ _. concatenation (Some items.old) (route_makes self.now row) ≡ Some items.new) }
+        ensures routed { IfOk result (λ routed. routed ≡ is_routed self.now row) }
+        ensures bad { IfErr result (λ e. e ≡ Fault.Bad → route_makes self.now row ≡ None) }
+    {
+        let mut routed = false;
+        for branch in self.branches.as_slice() {
+            match self.push_to(alloc, scratch, &row, branch, items) {
+                Ok(takes) => routed |= takes,
+                Err(fault) => return Err(fault),
+            }
+        }
+        Ok(routed)
+    }
+
+    // Sends the row to a branch, where that takes it, and tells whether it does.
+    fn push_to(
+        &self,
+        alloc: Global,
+        scratch: &mut RowScratch,
+        row: &Row,
+        branch: &Branch,
+        items: &mut LineItems,
+    ) -> Result<bool, ConvertFault>
+        requires conforms { conforms self.now.columns row.now ≡ true }
+        requires columns { branch.now.columns ≡ self.now.columns }
+        ensures ok { IfOk result (λ _. concatenation (Some items.old)
+            (branch_makes self.now row.now (branch.now.number, branch.now.spec)) ≡ Some items.new) }
+        ensures taken { IfOk result (λ takes. takes ≡ is_taken self.now row.now (branch.now.number, branch.now.spec)) }
+        ensures bad { IfErr result (λ e. e ≡ Fault.Bad
+            → branch_makes self.now row.now (branch.now.number, branch.now.spec) ≡ None) }
+        ensures err { OnErr result (items.new ≡ items.old) }
+    {
+        if !picks(&self.fork, &self.columns, row, branch.number()) {
+            return Ok(false);
+        }
+        let copy = row.copy()?;
+        branch.push(alloc, scratch, copy, items)?;
+        Ok(true)
+    }
+}
+
+// A branch for each spec, numbered in order.
+fn branches_of(
+    alloc: Global,
+    columns: &Columns,
+    specs: &[BranchSpec],
+) -> Result<Vec<Branch>, NoMemory>
+    requires few { length specs.now ≤ 8 }
+    requires fit { list_all (branch_fits columns.now) specs.now ≡ true }
+    requires short { list_all branch_is_short specs.now ≡ true }
+    ensures branches { IfOk result (λ v. AreBranches columns.now 0 v.items) }
+    ensures specs { IfOk result (λ v. specs_of v.items ≡ specs.now) }
+{
+    let mut branches = Vec::with_capacity(alloc, specs.len())?;
+    let mut number = 0;
+    for spec in specs {
+        let branch = Branch::new(alloc, spec, number, columns)?;
+        branches.push(branch)?;
+        number += 1;
+    }
+    Ok(branches)
+}

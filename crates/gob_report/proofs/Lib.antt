@@ -1,0 +1,4 @@
+pub mod Watermarks
+pub mod Pieces
+pub mod Counts
+pub mod Called

@@ -1,4 +1,0 @@
-mod Doing
-mod Names
-mod Parts
-mod Turns

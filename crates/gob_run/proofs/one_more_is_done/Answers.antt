@@ -1,8 +1,0 @@
-use Rattle.gob_run.proofs.Doing.{one_more, uncommitted}
-use Rattle.gob_run.proofs.one_more_is_done.Goals as goal
-
-pub returns-clause-committed : goal.returns-clause-committed
-returns-clause-committed c = one_more
-
-pub returns-clause-uncommitted : goal.returns-clause-uncommitted
-returns-clause-uncommitted c = uncommitted

@@ -1,5 +1,0 @@
-use Rattle.gob_run.proofs.Parts.{parts_keep}
-use Rattle.gob_run.proofs.parts_keep_the_rest.Goals as goal
-
-pub returns : goal.returns
-returns c = parts_keep

@@ -1,4 +1,0 @@
-pub mod Done
-pub mod Turning
-pub mod Laws
-pub mod TurnLaws

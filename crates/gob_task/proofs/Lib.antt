@@ -1,0 +1,10 @@
+pub mod Appended
+pub mod Begun
+pub mod Ends
+pub mod Files
+pub mod Published
+pub mod Pulls
+pub mod Sent
+pub mod Slots
+pub mod Turns
+pub mod Warnings

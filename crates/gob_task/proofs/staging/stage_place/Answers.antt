@@ -1,0 +1,25 @@
+use Rattle.std.proofs.Common.{◌≡◌, ◌≢◌, [], true, false, sym, subst, ◌∙◌}
+use Rattle.gob_device.specs.Names.{IsPathname}
+use Rattle.gob_recovery.specs.Sequence.{is_file_name}
+use Rattle.gob_task.proofs.Files.{file_pathname}
+use Rattle.gob_task.proofs.Slots.{no_place_appended, place_appended}
+use Rattle.gob_task.proofs.staging.stage_place.Goals as goal
+
+pub returns-then-is_empty-clause-appended : goal.returns-then-is_empty-clause-appended
+returns-then-is_empty-clause-appended g c =
+    no_place_appended c.args.plan.now c.args.unit.now c.args.slot c.args.place.now c.args.bytes.now c.args.staged.now _
+    (c.is_empty.ensures.0 c.if-is_empty.true)
+
+pub append-requires-clause-named : goal.append-requires-clause-named
+append-requires-clause-named g c =
+    subst IsPathname (sym c.as_str.ensures) (file_pathname c.in_ok-name.name c.in_ok-name.ensures.spelled)
+
+pub returns-clause-appended : goal.returns-clause-appended
+returns-clause-appended g c =
+    let some : c.args.bytes.now ≢ [] = λ e.
+    let yes : c.is_empty.result ≡ true = c.is_empty.ensures.1 e in
+    let no : c.is_empty.result ≡ false = c.if-is_empty.false in cc in
+    place_appended c.args.plan.now c.args.unit.now c.args.slot c.args.place.now c.args.bytes.now c.as_str.result.now
+    c.as_slice.result.now c.args.staged.now c.append.new.self _ _ some (c.as_str.ensures ∙ c.in_ok-name.ensures.name)
+    c.as_slice.ensures (subst (λ n. is_file_name n ≡ true) (sym c.as_str.ensures) c.in_ok-name.ensures.spelled)
+    c.in_ok-append.ensures.begun c.in_ok-append.ensures.holds c.in_ok-append.ensures.there

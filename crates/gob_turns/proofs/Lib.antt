@@ -1,0 +1,15 @@
+pub mod Having
+pub mod Left
+pub mod Turned
+pub mod Places
+pub mod Picking
+pub mod Stays
+pub mod Going
+pub mod Ways
+pub mod Answering
+pub mod Beginning
+pub mod Ending
+pub mod Stepping
+pub mod Publishing
+pub mod Committing
+pub mod Whole

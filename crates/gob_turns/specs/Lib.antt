@@ -1,0 +1,9 @@
+pub mod Turning
+pub mod TurnLaws
+pub mod Asked
+pub mod Taken
+pub mod Faults
+pub mod Standing
+pub mod Underway
+pub mod OneTurn
+pub mod Course
