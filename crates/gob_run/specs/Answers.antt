@@ -1,0 +1,165 @@
+-- What a run answers, exactly where, and what it leaves.
+use Rattle.std.specs.Prelude.{◌≡◌, ◌⊎◌, ℕ, ◌+◌, ◌*◌, List, [], ◌++◌, map, length, IfErr, IfOk, IfSome}
+use Rattle.std.specs.declared.option.Option.{Option}
+use Rattle.std.specs.declared.option.Option.TheVariants.{Some}
+use Rattle.std.specs.declared.result.Result.{Result}
+use Rattle.std.specs.declared.result.Result.TheVariants.{Ok, Err}
+use Rattle.gob_bytes.specs.Paths.{under}
+use Rattle.gob_bytes.specs.Tables.{names_of}
+use Rattle.gob_device.specs.Causes.{Rose, RoseBy}
+use Rattle.gob_device.specs.Disk.{Along, Disk, EachOf, Files, last_map}
+use Rattle.gob_device.specs.Supply.{Held, Pull, Supply, with_pulls}
+use Rattle.gob_meaning.specs.Job.{Job}
+use Rattle.gob_ledger.specs.Archive.{Agrees}
+use Rattle.gob_ledger.specs.Groups.{groups_of, is_committed}
+use Rattle.gob_ledger.specs.Spelling.{Proper}
+use Rattle.gob_ledger.specs.State.{State}
+use Rattle.gob_ledger.specs.Turns.{pulls_in, turns_of}
+use Rattle.gob_ledger.specs.Units.{too_long}
+use Rattle.gob_recovery.specs.Commits.{OnlyBelow}
+use Rattle.gob_recovery.specs.Settle.{IsSettled}
+use Rattle.gob_history.specs.Laws.{Lasting}
+use Rattle.gob_history.specs.Runs.{Ran, Readable, TrailOfRun, after_groups, run_units, run_verdicts, state_after}
+use Rattle.gob_history.specs.Runs.{state_or_empty}
+use Rattle.gob_history.specs.Sound.{AllRecoverTo}
+use Rattle.gob_state.specs.Committed.{judged_by, verdicts_in}
+use Rattle.gob_state.specs.declared.next.Outcome.{Outcome}
+use Rattle.gob_turns.specs.Taken.{FailuresRose, given_up_in}
+use Rattle.gob_run.specs.Entry.{Entry, IsFull, IsShrunk, LeftBroken, IsBroken, Refused, SettledTo, TooMany}
+use Rattle.gob_run.specs.World.{GoesOn, WhereFiled, WhereSupplied, WhereTold, World}
+use Rattle.gob_run.specs.declared.fault.RunFault.{RunFault}
+use Rattle.gob_run.specs.declared.fault.RunFault.TheVariants.{Damaged, Shrunk, Full, SourceFault, VolumeFault, Memory}
+
+abbrev pub Answer : Type 0
+Answer = Result Outcome RunFault
+
+-- ---- a run that was answered
+
+-- told or not: of each unit a result and whether it was committed, as the policy says of its group, and the state after
+-- the commits
+pub record OutcomeFits (job : Job) (o : Option State) (out : Outcome) : Type 0 where
+  pub results : length out.results ≡ length out.units
+  pub committed : let all = judged_by out.units out.results in
+      out.committed ≡ map (is_committed job.scope job.policy all) all
+  pub after : out.after
+      ≡ state_or_empty job (after_groups job o (groups_of job.scope (judged_by out.units out.results)))
+  pub proper : Proper out.after
+
+-- over a source that tells: the units are those of what it holds and of the state that was found, their verdicts are
+-- those of their bytes and of the turns that failed, and each pull of the turns was made
+pub record RunIsTold (job : Job) (failing : List ℕ) (o : Option State) (out : Outcome) (s t : Supply) : Type 0 where
+  pub units : out.units ≡ run_units job s.held o
+  pub verdicts : verdicts_in out.results ≡ run_verdicts job s.held failing o
+  pub too_long : out.too_long ≡ too_long job.limits (names_of s.held)
+  pub pulls : t ≡ with_pulls (pulls_in (turns_of job s.held out.units failing)) s
+
+-- over both: what such a run leaves, with nothing open and nothing staged, and all that it changed kept
+pub record RunIsLeft (job : Job) (failing : List ℕ) (o : Option State) (out : Outcome) (d : Disk) (s : Supply)
+    (e : Disk) (t : Supply) : Type 0 where
+  pub entry : Entry job.name d.files o
+  pub settled : IsSettled job.name e.files
+  pub ran : Ran job s.held entry.settled o failing out.units (verdicts_in out.results) e.files
+  pub lasting : Lasting entry.settled e.files
+
+-- the run found this state, and did what it has to do then
+pub record RunIsDone (job : Job) (failing : List ℕ) (out : Outcome) (old new : World) : Type 0 where
+  pub found : Option State
+  pub entry : IfSome old.disk (λ d. Entry job.name d.files found)
+  pub fits : OutcomeFits job found out
+  pub told : WhereSupplied (RunIsTold job failing found out) old new
+  pub left : WhereTold (RunIsLeft job failing found out) old new
+  pub gave_up : RoseBy (given_up_in out.results * (job.max_retries + 1)) old.source_faults new.source_faults
+
+-- ---- whatever is answered
+
+-- a reader who doesn't wait for recovery: each published file of each map is clean and expected of the state after the
+-- run, where that was so of the first map and the state before it
+abbrev pub ReadersOfRun : Job → Held → List ℕ → Files → List Files → Type 0
+ReadersOfRun job held failing m added = (archive : Held) (o : Option State) → Agrees archive held
+    → AllRecoverTo job.name archive o m → Readable job.name archive o m
+    → EachOf (Readable job.name archive (state_after job held failing o)) added
+
+-- the same of a call that only settles
+abbrev pub ReadersOfSettling : List ℕ → Files → List Files → Type 0
+ReadersOfSettling job m added = (archive : Held) (o : Option State) → AllRecoverTo job archive o m
+    → Readable job archive o m → EachOf (Readable job archive o) added
+
+-- the maps on the way
+pub record TrailIs (job : Job) (failing : List ℕ) (d : Disk) (s : Supply) (e : Disk) (t : Supply) : Type 0 where
+  pub added : List Files
+  pub trail : e.trail ≡ d.trail ++ added
+  pub stands : e.files ≡ last_map d.files added
+  pub goes : TrailOfRun job s.held failing d.files added
+  pub reads : ReadersOfRun job s.held failing d.files added
+
+-- the pulls: those of the turns, from the first on
+pub record PullsAre (job : Job) (failing : List ℕ) (s t : Supply) : Type 0 where
+  pub found : Option State
+  pub pulls : List Pull
+  pub made : t ≡ with_pulls pulls s
+  pub rest : List Pull
+  pub turns : pulls_in (turns_of job s.held (run_units job s.held found) failing) ≡ pulls ++ rest
+
+-- over a volume that tells too, the state is the one that was found there
+pub record PullsAreOf (job : Job) (failing : List ℕ) (d : Disk) (s : Supply) (e : Disk) (t : Supply) : Type 0 where
+  pub pulls : List Pull
+  pub made : t ≡ with_pulls pulls s
+  pub front : (o : Option State) → Entry job.name d.files o → (rest : List Pull)
+      × (pulls_in (turns_of job s.held (run_units job s.held o) failing) ≡ pulls ++ rest)
+
+-- no pull was made
+abbrev pub NoPull : World → World → Type 0
+NoPull old new = new.supply ≡ old.supply
+
+-- refused over the state that was found: that is right where the source tells, the files are settled and nothing else,
+-- and nothing was pulled
+pub record IsRefused (job : Job) (right : Supply → Option State → Type 0) (stored : Option State → Type 0)
+    (old new : World) : Type 0 where
+  pub found : Option State
+  pub entry : IfSome old.disk (λ d. Entry job.name d.files found)
+  pub told : IfSome old.supply (λ s. right s found)
+  pub untold : stored found
+  pub files : WhereFiled (SettledTo job.name) old new
+  pub unpulled : NoPull old new
+
+-- where each fault comes, and what it leaves
+abbrev pub FaultCaused : Job → World → World → RunFault → Type 0
+FaultCaused job old new (Damaged name) = WhereFiled (LeftBroken job.name name) old new × NoPull old new
+FaultCaused job old new (Shrunk part next size) =
+    IsRefused job (λ s o. IsShrunk job s o part next size) (λ o. Unit {0}) old new
+FaultCaused job old new (Full ranges units) =
+    IsRefused job (λ s o. IsFull job s o ranges units) (λ o. TooMany job o ranges units) old new
+FaultCaused job old new SourceFault =
+    Rose old.plan_faults new.plan_faults × WhereFiled (SettledTo job.name) old new × NoPull old new
+FaultCaused job old new VolumeFault = Rose old.volume_faults new.volume_faults
+FaultCaused job old new Memory = Unit {0}
+
+-- this is told, unless the volume failed or no memory was left
+abbrev pub ToldFirst : {T : Type 0} → Result T RunFault → RunFault → Type 0
+ToldFirst a r = (a ≡ Err r) ⊎ (a ≡ Err VolumeFault) ⊎ (a ≡ Err Memory)
+
+-- a refusal that is due comes, unless a device failed before or no memory was left; damage needs no source
+pub record Due (job : Job) (old : World) (a : Answer) : Type 0 where
+  pub broken : IfSome old.disk (λ d. (name : List ℕ) → IsBroken job.name d.files name → ToldFirst a (Damaged name))
+  pub refused : (d : Disk) (s : Supply) (r : RunFault) → old.disk ≡ Some d → old.supply ≡ Some s → Refused job d s r
+      → ToldFirst a r ⊎ (a ≡ Err SourceFault)
+
+-- where nothing is to be refused and no device failed, the run is done, unless no memory was left
+abbrev pub Completes : Job → World → World → Answer → Type 0
+Completes job old new a = (d : Disk) (s : Supply) → old.disk ≡ Some d → old.supply ≡ Some s
+    → ((r : RunFault) → Refused job d s r → ⊥)
+    → (Rose old.plan_faults new.plan_faults → ⊥) → (Rose old.volume_faults new.volume_faults → ⊥)
+    → ((out : Outcome) × (a ≡ Ok out)) ⊎ (a ≡ Err Memory)
+
+-- what a run says, whatever it answers
+pub record RunAnswered (job : Job) (failing : List ℕ) (a : Answer) (old new : World) : Type 0 where
+  pub done : IfOk a (λ out. RunIsDone job failing out old new)
+  pub trail : WhereTold (TrailIs job failing) old new
+  pub pulls : WhereSupplied (PullsAre job failing) old new
+  pub own_pulls : WhereTold (PullsAreOf job failing) old new
+  pub failed : FailuresRose failing old.source_faults new.source_faults
+  pub caused : IfErr a (FaultCaused job old new)
+  pub due : Due job old a
+  pub completes : Completes job old new a
+  pub below : Along (OnlyBelow (under job.name [])) old.disk new.disk
+  pub goes_on : GoesOn old new
