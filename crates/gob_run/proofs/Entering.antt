@@ -9,6 +9,7 @@ use Rattle.gob_meaning.specs.Job.{Job}
 use Rattle.gob_ledger.specs.Next.{Judged}
 use Rattle.gob_ledger.specs.State.{State}
 use Rattle.gob_recovery.specs.Laws.{NoTornSequence}
+use Rattle.gob_run.specs.Entry.{SettleAlike}
 use Rattle.gob_recovery.specs.Sequence.{CommitStep, move, remove}
 use Rattle.gob_recovery.specs.Settle.{IsDamaged, Settles, SettlesAs, can_do, sequence, lost}
 use Rattle.gob_recovery.proofs.Damaged.{one_damage}
@@ -73,11 +74,6 @@ settled_of job archive o m all =
     (settles_or_damaged job m)
 
 -- ---- maps that settle as the first one does
-
--- each of these maps settles as the first one does, where that can be settled
-abbrev pub SettleAlike : List ℕ → Files → List Files → Type 0
-SettleAlike job m added = (settled : Files) → NoTornSequence job m → Settles job m settled
-    → EachOf (SettlesAs job settled) added
 
 each_stands : (job : List ℕ) (archive : Held) (o : Option State) (m : Files) (added : List Files)
     → AllRecoverTo job archive o m → SettleAlike job m added → EachOf (AllRecoverTo job archive o) added

@@ -1,1 +1,9 @@
-mod Entering
+pub mod Entering
+pub mod Readers
+mod Lasting
+mod Reading
+mod Wents
+mod Began
+mod Counting
+mod Trailing
+mod Answering
