@@ -1,9 +1,9 @@
 -- How a run stands behind settling and loading, over a volume that tells: one state is found, and nothing is damaged.
 use Rattle.std.proofs.Common.{◌≡◌, ◌≢◌, ◌⊎◌, ℕ, ◌+◌, ◌<◌, ◌≤◌, false, List, [], ◌∷◌, ◌++◌, refl, sym, ap, subst, ◌∙◌, Some, None}
-use Rattle.std.proofs.Common.{option_map, arith}
+use Rattle.std.proofs.Common.{option_map, IfSome}
 use Rattle.std.specs.declared.option.Option.{Option}
-use Rattle.gob_bytes.specs.Tables.{Table}
-use Rattle.gob_device.specs.Disk.{AddsMaps, Along, Disk, EachFrom, EachOf, Files, Went, last_map}
+use Rattle.gob_bytes.specs.Paths.{sequence_name}
+use Rattle.gob_device.specs.Disk.{AddsMaps, Along, Both, Disk, EachFrom, EachOf, Files, Went, last_map}
 use Rattle.gob_device.specs.Supply.{Supply, listing_of}
 use Rattle.gob_device.proofs.Trail.{each-map}
 use Rattle.gob_meaning.specs.Job.{Job}
@@ -21,11 +21,10 @@ use Rattle.gob_recovery.proofs.Spelled.{to_one}
 use Rattle.gob_history.specs.Runs.{state_or_empty}
 use Rattle.gob_segments.specs.Loading.{IsKept, IsLoaded}
 use Rattle.gob_segments.specs.declared.change.Loaded.{Loaded}
-use Rattle.gob_seq.specs.Maps.{ImagesSettleTheSame}
+use Rattle.gob_seq.specs.Maps.{ImagesSettleTheSame, SettlesByName}
 use Rattle.gob_run.specs.Cutting.{parts_of}
 use Rattle.gob_run.specs.Entry.{Entry, IsBroken, SettleAlike, SettledTo, broken, full, sequence, shrunk, state}
 use Rattle.gob_run.specs.Faults.{Finds}
-use Rattle.gob_run.proofs.Readers.{SettlesByName}
 use Rattle.gob_run.proofs.Wents.{adds_both, went_of}
 
 -- the volume is settled, and this was loaded
@@ -106,3 +105,15 @@ not_broken job l d c name b (state other _ settles damaged) =
 pub parts_same : (job : Job) (o : Option State) → (state_or_empty job o).parts ≡ parts_of o
 parts_same job None = refl
 parts_same job (Some s) = refl
+
+-- no sequence is open
+pub closed_of : (job : List ℕ) (l : Loaded) (old mid : Option Disk) → AddsMaps (Finds job l) old mid
+    → IfSome mid (λ d. d.files (sequence_name job) ≡ None)
+closed_of job l old mid found = closed old mid found.told
+  where
+    closed : (o n : Option Disk) → Both (Went (Finds job l)) o n → IfSome n (λ d. d.files (sequence_name job) ≡ None)
+    closed None None both = tt
+    closed (Some d) None both = tt
+    closed None (Some e) both = absurd both
+    closed (Some d) (Some e) both = subst (λ m. m (sequence_name job) ≡ None) (sym both.stands)
+        (settled_is job d.files (last_map d.files both.added) both.holds.0).closed

@@ -3,7 +3,7 @@
 use Rattle.std.proofs.Common.{◌≡◌, ◌≢◌, ◌⊎◌, ⊎_elim, ℕ, true, false, cond, List, [], ◌∷◌, refl, sym, ap, ◌∙◌, Some, None, codes}
 use Rattle.std.proofs.Common.{option_map}
 use Rattle.std.specs.declared.option.Option.{Option}
-use Rattle.gob_bytes.specs.Paths.{begins_with, is_published, sequence_name, staging, under}
+use Rattle.gob_bytes.specs.Paths.{begins_with, is_published, sequence_name, under}
 use Rattle.gob_device.specs.Disk.{EachOf, File, Files, clean, contents_at, contents_of}
 use Rattle.gob_device.specs.Supply.{Held}
 use Rattle.gob_device.proofs.Trail.{each-map}
@@ -14,14 +14,9 @@ use Rattle.gob_history.specs.Runs.{Readable}
 use Rattle.gob_history.specs.Sound.{AllRecoverTo, IsDurable, SoundIn}
 use Rattle.gob_history.proofs.Fronts.{published_unstaged, under_front}
 use Rattle.gob_history.proofs.Steadied.{steadied}
+use Rattle.gob_seq.specs.Maps.{SettlesByName}
 use Rattle.gob_run.specs.Answers.{ReadersOfSettling}
 use Rattle.gob_run.proofs.Entering.{settled_of}
-
--- name by name, outside the staging and but for the open sequence, the map holds what the first one or the settled one
--- does
-abbrev pub SettlesByName : List ℕ → Files → Files → Type 0
-SettlesByName job m n = (settled : Files) → Settles job m settled → (name : List ℕ)
-    → begins_with (staging job) name ≡ false → name ≢ sequence_name job → (n name ≡ m name) ⊎ (n name ≡ settled name)
 
 sequence_unpublished : (job : List ℕ) → is_published job (sequence_name job) ≡ false
 sequence_unpublished job =

@@ -27,7 +27,7 @@ use Rattle.gob_commit.specs.Going.{GoneAlong, GoneToEnd}
 use Rattle.gob_commit.proofs.Doing.{all_done}
 use Rattle.gob_cut.specs.declared.run_units.Cut.{Cut}
 use Rattle.gob_segments.specs.declared.change.Loaded.{Loaded}
-use Rattle.gob_seq.specs.Maps.{ImagesSettleTheSame}
+use Rattle.gob_seq.specs.Maps.{ImagesSettleTheSame, SettlesByName}
 use Rattle.gob_state.specs.Committed.{verdicts_in}
 use Rattle.gob_state.specs.declared.next.Outcome.{Outcome}
 use Rattle.gob_run.specs.Answers.{ReadersOfRun, RunIsLeft, TrailIs}
@@ -38,7 +38,7 @@ use Rattle.gob_run.specs.World.{GoesOn, World}
 use Rattle.gob_run.proofs.Began.{Began, entry_of, parts_same}
 use Rattle.gob_run.proofs.Entering.{run_trail}
 use Rattle.gob_run.proofs.Lasting.{lasting_along}
-use Rattle.gob_run.proofs.Readers.{SettlesByName, published_apart}
+use Rattle.gob_run.proofs.Readers.{published_apart}
 use Rattle.gob_run.proofs.Reading.{PublishedAmong, readers_of_run}
 
 -- how a run came to its work

@@ -1,9 +1,10 @@
 //! The turns of a run's units, and the commits behind them.
-ghost use Rattle.std.specs.Prelude.{◌≡◌, true, [], IfSome, None};
+ghost use Rattle.std.specs.Prelude.{◌≡◌, true, [], IfOk, IfSome, None};
 ghost use Rattle.gob_bytes.specs.Paths.{sequence_name};
 ghost use Rattle.gob_commit.specs.Staged.{HasRules};
 ghost use Rattle.gob_job.specs.Jobs.{job_from};
 ghost use Rattle.gob_jobs.specs.Laws.{IsJob};
+ghost use Rattle.gob_ledger.specs.Spelling.{IsKeptPipeline};
 ghost use Rattle.gob_recovery.specs.Sequence.{is_file_name};
 ghost use Rattle.gob_segments.specs.Loading.{LoadedFits};
 ghost use Rattle.gob_run.specs.Cutting.{CutFits, parts_of};
@@ -94,8 +95,11 @@ fn task_rules(alloc: Global, job: &Job) -> Result<TaskRules, NoMemory>
 // By what the units of a job are committed.
 fn commit_rules(job: &Job) -> CommitRules<'_>
     requires right { IsJob job.now.name (job_from job.now) }
-    ensures { HasRules (job_from job.now) result }
+    ensures rules { HasRules (job_from job.now) result }
+    ensures kept { IsKeptPipeline result.pipeline.now }
 {
+    // What is in memory is short enough for a file to tell its length.
+    let _length = job.pipeline.len();
     CommitRules {
         job: job.name.as_str(),
         pipeline: job.pipeline.as_str(),
