@@ -1,1 +1,4 @@
 mod Entering
+mod Counting
+mod Settled
+mod Refusing

@@ -41,7 +41,7 @@ pub record ShrunkAt (parts : Table Marks) (part : List ℕ) (next size : ℕ) (s
 
 -- there is no room for so many new units beside so many ranges
 pub record NoRoom (parts : Table Marks) (limits : Limits) (ranges units : ℕ) (old : Option Supply) : Type 0 where
-  pub ranges : ranges ≡ range_count parts
+  pub stored : ranges ≡ range_count parts
   pub many : most_ranges < ranges + units
   pub told : IfSome old (λ s. (first_shrunk parts (listing_of s.held) ≡ None)
       × (units ≡ new_count (units_of_parts parts s.held limits)))
