@@ -47,16 +47,16 @@ if_known : {A : Type 0} {P : A → Type 0} (o : Option A) → ((a : A) → o ≡
 if_known None f = tt
 if_known (Some a) f = f a refl
 
-known : {A : Type 0} {P : A → Type 0} (o : Option A) (a : A) → o ≡ Some a → IfSome o P → P a
-known {A} {P} o a is p = let at : IfSome (Some a) P = subst (λ (x : Option A). IfSome x P) is p in at
+known : {A : Type 0} (P : A → Type 0) (o : Option A) (a : A) → o ≡ Some a → IfSome o P → P a
+known {A} P o a is p = let at : IfSome (Some a) P = subst (λ (x : Option A). IfSome x P) is p in at
 
-both_there : {A : Type 0} {R : A → A → Type 0} (old new : Option A) (a : A) → old ≡ Some a → Both R old new
+both_there : {A : Type 0} (R : A → A → Type 0) (old new : Option A) (a : A) → old ≡ Some a → Both R old new
     → (b : A) × (new ≡ Some b) × R a b
-both_there {A} {R} old None a is both = absurd (subst (λ (o : Option A). Both R o None) is both)
-both_there {A} {R} old (Some b) a is both = (b, refl, subst (λ (o : Option A). Both R o (Some b)) is both)
+both_there {A} R old None a is both = absurd (subst (λ (o : Option A). Both R o None) is both)
+both_there {A} R old (Some b) a is both = (b, refl, subst (λ (o : Option A). Both R o (Some b)) is both)
 
 pub filed : (R : Disk → Disk → Type 0) (old new : World) → Both R old.disk new.disk → WhereFiled R old new
-filed R old new both d is = both_there old.disk new.disk d is both
+filed R old new both d is = both_there R old.disk new.disk d is both
 
 -- ---- a run that stops before its first pull
 
@@ -303,7 +303,8 @@ cut_caused job o (Damaged name) old new entry settled none cut = absurd cut
 cut_caused job o (Shrunk part next size) old new entry settled none cut = record {
   found = o;
   entry = entry;
-  told = if_known old.supply (λ s in_supply. shrunk_is job o s part next size (known old.supply s in_supply cut));
+  told = if_known old.supply (λ s in_supply. shrunk_is job o s part next size
+      (known (ShrunkAt (state_or_empty job o).parts part next size) old.supply s in_supply cut));
   untold = tt;
   files = settled;
   unpulled = none;
@@ -336,7 +337,7 @@ shrunk_one job o s part name next size at long a b =
 shrunk_or_full : (job : Job) (o : Option State) (s : Supply) (part : List ℕ) (next size ranges units : ℕ)
     → IsShrunk job s o part next size → IsFull job s o ranges units → ⊥
 shrunk_or_full job o s part next size ranges units a b =
-    let no : None ≡ Some (part, size) = sym b.unshrunk ∙ a.first in cc
+    let no : ◌≡◌ {A = Option (List ℕ × ℕ)} None (Some (part, size)) = sym b.unshrunk ∙ a.first in cc
 
 full_one : (job : Job) (o : Option State) (s : Supply) (ranges units stored fresh : ℕ)
     → IsFull job s o ranges units → IsFull job s o stored fresh → Full ranges units ≡ Full stored fresh

@@ -103,7 +103,7 @@ stops_with P r f x is same p = subst (λ z. IfErr z P) (sym is) (subst P (sym sa
 -- ---- damage that is due
 
 -- where a damaged sequence is to blame, nothing else is
-broken_one : (job name blamed : List ℕ) (m : Files) → IsDamaged job m blamed → IsBroken job m name → name ≡ blamed
+pub broken_one : (job name blamed : List ℕ) (m : Files) → IsDamaged job m blamed → IsBroken job m name → name ≡ blamed
 broken_one job _ blamed m told (sequence name damaged) = (one_damage job m blamed told).blamed name damaged
 broken_one job _ blamed m told (state settled name settles damaged) =
     absurd ((one_damage job m blamed told).unsettled settled settles)
@@ -130,7 +130,8 @@ settle_tells {T} job r (settle_fault.Damaged blamed) old new is damages = if_bot
 
 -- the map that stands once all is settled
 settled_there : (job : List ℕ) (P : Files → Type 0) (old between : Option Disk)
-    → AddsMaps (Becomes (Settles job)) old between → IfSome between (λ d. P d.files) → IfSome old (λ d. (settled : Files) × Settles job d.files settled × P settled)
+    → AddsMaps (Becomes (Settles job)) old between → IfSome between (λ d. P d.files)
+    → IfSome old (λ d. (settled : Files) × Settles job d.files settled × P settled)
 settled_there job P None between a p = tt
 settled_there job P (Some d) None a p = absurd a.told
 settled_there job P (Some d) (Some e) a p = (e.files, subst (Settles job d.files) (sym a.told.stands) a.told.holds, p)

@@ -1,7 +1,7 @@
 use Rattle.std.proofs.Common.{[], ap, subst, sym, ◌∙◌}
 use Rattle.std.proofs.lemmas.Result.{err_from_is_err_and}
 use Rattle.std.specs.declared.result.Result.{Result}
-use Rattle.std.specs.declared.result.Result.TheVariants.{Ok, Err}
+use Rattle.std.specs.declared.result.Result.TheVariants.{Err}
 use Rattle.gob_bytes.specs.Paths.{under}
 use Rattle.gob_device.specs.Disk.{Along}
 use Rattle.gob_recovery.specs.Commits.{OnlyBelow}
@@ -9,7 +9,8 @@ use Rattle.gob_seq.specs.Maps.{ImagesSettleTheSame}
 use Rattle.gob_segments.specs.declared.change.Loaded.{Loaded}
 use Rattle.gob_run.specs.Faults.{BeginsNot, run_of_load, run_of_settle}
 use Rattle.gob_run.specs.declared.fault.RunFault.{RunFault}
-use Rattle.gob_run.proofs.Settled.{finds, found_unbroken, load_stops, load_tells, settle_stops, settle_tells, stops_with}
+use Rattle.gob_run.proofs.Settled.{finds, found_unbroken, load_stops, load_tells, settle_stops}
+use Rattle.gob_run.proofs.Settled.{settle_tells, stops_with}
 use Rattle.gob_run.proofs.entry.settle_and_load.Goals as goal
 
 pub returns-in_err-settle-clause-stopped : goal.returns-in_err-settle-clause-stopped
