@@ -107,8 +107,9 @@ no_refusal job l cut supply d c s (Damaged name) fits told b (broken _ is) = not
 no_refusal job l cut supply d c s (Shrunk part next size) fits told b (shrunk o _ _ _ entry is) =
     let parts = ap (λ q. (state_or_empty job q).parts) (found_is_one job.name l d c o b entry)
         ∙ parts_same job l.state in
-    let no : None ≡ Some (part, size) =
-    sym told.unshrunk ∙ ap (λ p. first_shrunk p (listing_of s.held)) (sym parts) ∙ is.first in cc
+    let here : first_shrunk (parts_of l.state) (listing_of s.held) ≡ Some (part, size) =
+    ap (λ p. first_shrunk p (listing_of s.held)) (sym parts) ∙ is.first in
+    let none : None ≡ Some (part, size) = sym told.unshrunk ∙ here in cc
 no_refusal job l cut supply d c s (Full ranges units) fits told b (full o _ _ entry is) =
     let parts = ap (λ q. (state_or_empty job q).parts) (found_is_one job.name l d c o b entry)
         ∙ parts_same job l.state in
@@ -117,6 +118,9 @@ no_refusal job l cut supply d c s (Full ranges units) fits told b (full o _ _ en
     is.fresh ∙ ap (λ p. length (new_units p s.held job.limits)) parts
     ∙ sym (new_count_told (parts_of l.state) s.held job.limits) ∙ ap new_count (sym told.units) in
     omega (arith, stored, fresh, is.many.many, fits.room)
+no_refusal job l cut supply d c s SourceFault fits told b is = elim is [ ]
+no_refusal job l cut supply d c s VolumeFault fits told b is = elim is [ ]
+no_refusal job l cut supply d c s Memory fits told b is = elim is [ ]
 
 -- ---- the answer
 
@@ -144,14 +148,14 @@ done_where job failing l cut (Err f) old mid new u w = tt
 -- only a volume that failed, or want of memory, stops the work
 ends : (a : Answer) (old mid new : World) → GoesOn old mid → IfErr a (WorkStops mid new)
     → (Rose old.volume_faults new.volume_faults → ⊥) → ((out : Outcome) × (a ≡ Ok out)) ⊎ (a ≡ Err Memory)
-ends (Ok out) old mid new on stops no = inl (out, refl)
-ends (Err (Damaged name)) old mid new on stops no = absurd stops
-ends (Err (Shrunk part next size)) old mid new on stops no = absurd stops
-ends (Err (Full ranges units)) old mid new on stops no = absurd stops
-ends (Err SourceFault) old mid new on stops no = absurd stops
-ends (Err VolumeFault) old mid new on stops no =
-    absurd (no (rose_after old.volume_faults mid.volume_faults new.volume_faults on.volume stops))
-ends (Err Memory) old mid new on stops no = inr refl
+ends (Ok out) old mid new on stops still = inl (out, refl)
+ends (Err (Damaged name)) old mid new on stops still = absurd stops
+ends (Err (Shrunk part next size)) old mid new on stops still = absurd stops
+ends (Err (Full ranges units)) old mid new on stops still = absurd stops
+ends (Err SourceFault) old mid new on stops still = absurd stops
+ends (Err VolumeFault) old mid new on stops still =
+    absurd (still (rose_after old.volume_faults mid.volume_faults new.volume_faults on.volume stops))
+ends (Err Memory) old mid new on stops still = inr refl
 
 pub answered_behind_work : (job : Job) (failing : List ℕ) (l : Loaded) (cut : Cut) (a : Answer) (old mid new : World)
     → IsUnderway job l cut old mid → Worked job failing l cut a mid new → RunAnswered job failing a old new
@@ -211,7 +215,7 @@ answered_behind_work job failing l cut a old mid new u w = record {
             let b = begun job l cut old mid d u is in absurd (not_broken job.name l d b.0 name b.2 broken));
     refused = λ d s r is_d is_s refused.
         let b = begun job l cut old mid d u is_d in
-        absurd (no_refusal job l cut old.supply d b.0 s r u.cut (cut_told job l cut old mid s u is_s) b.2 refused);
+        absurd (no_refusal job l cut old.supply d b.0 s r u.fits (cut_told job l cut old mid s u is_s) b.2 refused);
   };
   completes = λ d s is_d is_s none no_plan no_volume. ends a old mid new u.goes_on w.stopped no_volume;
   below = along_then (OnlyBelow (under job.name [])) (λ m n k f g name out. g name out ∙ f name out) u.below w.below;

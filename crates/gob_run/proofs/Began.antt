@@ -51,12 +51,12 @@ began_of job l old mid d found alike names is =
     let both = adds_both (EachFrom (ImagesSettleTheSame job)) (EachFrom (SettlesByName job)) old mid alike names in
     let all = adds_both (Finds job l)
         (λ m a. EachFrom (ImagesSettleTheSame job) m a × EachFrom (SettlesByName job) m a) old mid found both in
-    let w = went_of (λ m a. Finds job l m a × EachFrom (ImagesSettleTheSame job) m a × EachFrom (SettlesByName job) m a)
-        old mid d all is in
+    let w = went_of (λ m a. Finds job l m a × (EachFrom (ImagesSettleTheSame job) m a
+        × EachFrom (SettlesByName job) m a)) old mid d all is in
     (w.0, w.1, begun w.0 w.2)
   where
-    begun : (c : Disk) → Went (λ m a. Finds job l m a × EachFrom (ImagesSettleTheSame job) m a
-        × EachFrom (SettlesByName job) m a) d c → Began job l d c
+    begun : (c : Disk) → Went (λ m a. Finds job l m a × (EachFrom (ImagesSettleTheSame job) m a
+        × EachFrom (SettlesByName job) m a)) d c → Began job l d c
     begun c w =
         let kept = subst (λ n. IsKept job n l) (sym w.stands) w.holds.0.1 in
         record {
@@ -73,7 +73,7 @@ began_of job l old mid d found alike names is =
 
 -- ---- what is found
 
-pub entry_of : (job : List ℕ) (l : Loaded) (d c : Disk) → Began job l d c → Entry job d.files l.state
+unfoldable pub entry_of : (job : List ℕ) (l : Loaded) (d c : Disk) → Began job l d c → Entry job d.files l.state
 entry_of job l d c b = record {
   settled = c.files;
   settles = b.settles;

@@ -1,15 +1,12 @@
 -- How a run begins: whatever it answers then, its maps go along its states.
 use Rattle.std.proofs.Common.{◌≡◌, ⊎_elim, ℕ, List, [], ◌∷◌, ◌++◌, Option, Some, None, refl, sym, ap, ◌∙◌, subst}
 use Rattle.std.proofs.Common.{option_map, is_some, ◌||◌, ap₂, append-nil}
-use Rattle.gob_bytes.specs.Paths.{sequence_name}
 use Rattle.gob_bytes.specs.Tables.{IsInByteOrder, names_of}
 use Rattle.gob_device.specs.Disk.{File, Files, FileImage, Image, EachOf, Rises, clean, contents_of, dirty}
 use Rattle.gob_device.specs.Supply.{Held}
 use Rattle.gob_meaning.specs.Job.{Job}
 use Rattle.gob_ledger.specs.Next.{Judged}
 use Rattle.gob_ledger.specs.State.{State}
-use Rattle.gob_recovery.specs.Laws.{NoTornSequence}
-use Rattle.gob_run.specs.Entry.{SettleAlike}
 use Rattle.gob_recovery.specs.Sequence.{CommitStep, move, remove}
 use Rattle.gob_recovery.specs.Settle.{IsDamaged, Settles, SettlesAs, can_do, sequence, lost}
 use Rattle.gob_recovery.proofs.Damaged.{one_damage}
@@ -27,6 +24,7 @@ use Rattle.gob_history.proofs.Goes.{goes}
 use Rattle.gob_history.proofs.Rising.{rises_more, rises_on}
 use Rattle.gob_history.proofs.Stands.{standing}
 use Rattle.gob_history.proofs.Steadied.{quiet_sequence, steadied}
+use Rattle.gob_run.specs.Entry.{SettleAlike}
 
 -- ---- a map that recovers settles
 

@@ -1,4 +1,5 @@
 pub mod Entering
+pub mod Named
 pub mod Readers
 mod Lasting
 mod Reading
@@ -7,3 +8,6 @@ mod Began
 mod Counting
 mod Trailing
 mod Answering
+mod Settled
+mod Rooms
+mod Refusing

@@ -29,7 +29,8 @@ pub durable_readable : (job : List ℕ) (archive : Held) (o : Option State) (m :
     → Readable job archive o m
 durable_readable job archive o m durable name f published here =
     let c = durable.clean.published name f published here in
-    (c.0, c.1, expects o durable.sound (ap (option_map contents_of) here ∙ ap (λ g. Some (contents_of g)) c.1))
+    let e = expects o durable.sound (ap (option_map contents_of) here ∙ ap (λ g. Some (contents_of g)) c.1) in
+    (c.0, c.1, e.0, e.1, e.2)
   where
     expects : {bytes : List ℕ} (p : Option State) → SoundIn job archive p m → contents_at m name ≡ Some bytes
         → (s : State) × (p ≡ Some s) × IsExpected job s archive name bytes

@@ -35,7 +35,8 @@ Expects job archive o name bytes = (s : State) × (o ≡ Some s) × IsExpected j
 
 -- a clean file that the state expects
 abbrev IsRight : List ℕ → Held → Option State → List ℕ → File → Type 0
-IsRight job archive o name f = (bytes : List ℕ) × (f ≡ clean bytes) × Expects job archive o name bytes
+IsRight job archive o name f =
+    (bytes : List ℕ) × (f ≡ clean bytes) × (s : State) × (o ≡ Some s) × IsExpected job s archive name bytes
 
 -- ---- what is expected stays expected
 
@@ -60,7 +61,9 @@ groups_expect job archive (g ∷ gs) o name bytes e =
 
 right_later : (job : Job) (archive : Held) (gs : List (List Judged)) (o : Option State) (name : List ℕ) (f : File)
     → IsRight job.name archive o name f → IsRight job.name archive (after_groups job o gs) name f
-right_later job archive gs o name f (bytes, is, e) = (bytes, is, groups_expect job archive gs o name bytes e)
+right_later job archive gs o name f (bytes, is, s, e, expected) =
+    let later = groups_expect job archive gs o name bytes (s, e, expected) in
+    (bytes, is, later.0, later.1, later.2)
 
 -- a file of one of the maps between the groups' commits
 among_right : (job : Job) (archive : Held) (gs : List (List Judged)) (o : Option State) (maps : List Files) (k : Files)

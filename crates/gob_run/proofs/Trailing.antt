@@ -48,7 +48,7 @@ pub record IsUnderway (job : Job) (l : Loaded) (cut : Cut) (old mid : World) : T
   pub alike : Along (ImagesSettleTheSame job.name) old.disk mid.disk
   pub names : Along (SettlesByName job.name) old.disk mid.disk
   pub below : Along (OnlyBelow (under job.name [])) old.disk mid.disk
-  pub cut : CutFits (parts_of l.state) job.limits old.supply cut
+  pub fits : CutFits (parts_of l.state) job.limits old.supply cut
   pub supply : mid.supply ≡ old.supply
   pub goes_on : GoesOn old mid
 
@@ -58,7 +58,7 @@ TellsCut job l cut s = CutIsTold (parts_of l.state) job.limits cut s
 
 pub cut_told : (job : Job) (l : Loaded) (cut : Cut) (old mid : World) (s : Supply) → IsUnderway job l cut old mid
     → old.supply ≡ Some s → TellsCut job l cut s
-cut_told job l cut old mid s u is = subst (λ o. IfSome o (TellsCut job l cut)) is u.cut.told
+cut_told job l cut old mid s u is = subst (λ o. IfSome o (TellsCut job l cut)) is u.fits.told
 
 pub units_are : (job : Job) (l : Loaded) (cut : Cut) (s : Supply) → TellsCut job l cut s
     → cut.units ≡ run_units job s.held l.state
@@ -129,6 +129,7 @@ pub left_of : (job : Job) (failing : List ℕ) (l : Loaded) (cut : Cut) (out : O
     → TellsCut job l cut s → Began job.name l d c → out.units ≡ cut.units
     → verdicts_in out.results ≡ verdicts_of job s.held cut.units failing
     → Went (WentToEnd job s.held l.state cut.units failing) c e → RunIsLeft job failing l.state out d s e t
+unfolding entry_of
 left_of job failing l cut out d c e s t told b units verdicts w =
     let go = w.holds.gone in
     let done = subst (λ n. GroupsDone job s.held l.state c.files (run_groups job s.held failing l.state) n go.maps)

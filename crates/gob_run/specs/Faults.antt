@@ -49,8 +49,8 @@ run_of_commit commit_fault.Memory = Memory
 abbrev pub Finds : List ℕ → Loaded → Files → List Files → Type 0
 Finds job l m added = Settles job m (last_map m added) × IsKept job (last_map m added) l
 
--- why nothing was loaded, and what that leaves: damage is told where there is some, and the volume's count rose where it
--- failed
+-- why nothing was loaded, and what that leaves: damage is told where there is some, and the volume's count rose where
+-- it failed
 abbrev pub BeginsNot : List ℕ → Option Disk → Option Disk → ℕ → ℕ → RunFault → Type 0
 BeginsNot job old new before now (Damaged name) = Both (LeftBroken job name) old new
 BeginsNot job old new before now (Shrunk part next size) = ⊥

@@ -1,5 +1,5 @@
 //! How a run begins.
-ghost use Rattle.std.specs.Prelude.{◌≡◌, ◌≤◌, ℕ, List, [], IfErr, IfOk, IfSome};
+ghost use Rattle.std.specs.Prelude.{◌≤◌, ℕ, List, [], IfErr, IfOk, IfSome};
 ghost use Rattle.gob_bytes.specs.Paths.{under};
 ghost use Rattle.gob_device.specs.Disk.{AddsMaps, Along};
 ghost use Rattle.gob_device.specs.Names.{IsPathname};

@@ -1,5 +1,5 @@
-//! One run of a job: what a stopped run left is settled, what is kept is loaded, the units are cut, have their turns and
-//! are committed.
+//! One run of a job: what a stopped run left is settled, what is kept is loaded, the units are cut, have their turns
+//! and are committed.
 #![tactic(auto)]
 
 mod cutting;

@@ -1,6 +1,6 @@
 use Rattle.gob_run.proofs.Answering.{answered_behind_work}
 use Rattle.gob_run.proofs.Began.{closed_of}
-use Rattle.gob_commit.proofs.Fitting.{file_pathname}
+use Rattle.gob_run.proofs.Named.{file_pathname}
 use Rattle.gob_run.proofs.run.run_job.Goals as goal
 
 pub settle_and_load-requires : goal.settle_and_load-requires
