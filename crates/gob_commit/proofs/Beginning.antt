@@ -33,6 +33,7 @@ none_gone j held l units results groups settled m has = record {
   maps = settled ∷ [];
   done = none_done j held l units results settled m has;
   rises = ([], [], refl, tt, refl);
+  reads = tt;
 }
 
 pub nothing_along : (rules : CommitRules) (l : Loaded) (units : List WorkUnit) (results : List UnitResult)

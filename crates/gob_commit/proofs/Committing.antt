@@ -5,7 +5,7 @@ use Rattle.std.specs.declared.option.Option.{Option}
 use Rattle.std.specs.List.{Contains}
 use Rattle.std.proofs.lemmas.List.Elements.{Contains-append_cases}
 use Rattle.gob_bytes.specs.Paths.{begins_with, sequence_name, staging}
-use Rattle.gob_device.specs.Disk.{AddsMaps, Disk, Files, Rises, after_remove, last_map}
+use Rattle.gob_device.specs.Disk.{AddsMaps, Disk, EachOf, Files, Rises, after_remove, last_map}
 use Rattle.gob_device.specs.Supply.{Held}
 use Rattle.gob_device.proofs.Trail.{maps_map, maps_nothing}
 use Rattle.gob_plan.specs.declared.units.Unit.{Unit as WorkUnit}
@@ -30,6 +30,7 @@ use Rattle.gob_history.proofs.Keeps.{committing}
 use Rattle.gob_segments.specs.declared.change.Loaded.{Loaded}
 use Rattle.gob_state.specs.Committed.{judged_by}
 use Rattle.gob_commit.specs.declared.rules.CommitRules.{CommitRules}
+use Rattle.gob_commit.specs.Done.{PublishedFrom}
 use Rattle.gob_commit.specs.Going.{GroupEnded, GroupEnds, GroupRises, GroupRose, InOrder, LeavesStaging}
 use Rattle.gob_commit.specs.Going.{StagingLeft, StepsEnd, StepsRise, settled_by, with_state}
 use Rattle.gob_segments.specs.Loading.{IsLoaded}
@@ -143,6 +144,8 @@ rose_by j held rules l units results t settled m added has n apart rise s =
           (apart_in j rules results has apart) s r.order);
       rises = subst (λ (k : Files). Rises (SettlesAs j.name) (k ∷ settled_by j.name c r.sorted m ∷ []) added)
           (settled_same j.name settled m s.closed s.over) r.rises;
+      reads = subst (λ (k : Files). EachOf (PublishedFrom j.name (k ∷ settled_by j.name c r.sorted m ∷ [])) added)
+          (settled_same j.name settled m s.closed s.over) r.reads;
     })
 
 pub group_rises : (rules : CommitRules) (l : Loaded) (units : List WorkUnit) (results : List UnitResult) (t : State)
@@ -186,6 +189,8 @@ ended_by j held rules l units results t changes settled m added has n apart coun
           (apart_in j rules results has apart) s r.order);
       rises = subst (λ (k : Files). Rises (SettlesAs j.name) (k ∷ settled_by j.name c r.sorted m ∷ []) added)
           (settled_same j.name settled m s.closed s.over) r.rises;
+      reads = subst (λ (k : Files). EachOf (PublishedFrom j.name (k ∷ settled_by j.name c r.sorted m ∷ [])) added)
+          (settled_same j.name settled m s.closed s.over) r.reads;
       over = λ name away. ap (λ (k : Files). k name) r.ends
           ∙ (parts_keep j.name steps (with_state j.name c m) r.order.fits).staged name away;
       loaded = subst (λ (k : Option Kept). IsLoaded k (record { state = Some t; deltas = changes; version = 2 }))
@@ -257,8 +262,8 @@ group_leaves job c pairs a = maps_map (λ m added e. left_by job c pairs m added
 
 pub idle_rises : (rules : CommitRules) (l : Loaded) (units : List WorkUnit) (results : List UnitResult)
     (o : Option Disk) → AddsMaps (GroupRises rules l units results) o o
-idle_rises rules l units results o =
-    maps_nothing (GroupRises rules l units results) (λ m j held settled has s. inl tt) o
+idle_rises rules l units results o = maps_nothing (GroupRises rules l units results)
+    (λ m j held settled has s. inl (record { still = tt; reads = tt })) o
 
 kept_still : (k : Option Kept) (next : Kept) (js : List Judged) → js ≡ [] → kept_where k next js ≡ k
 kept_still k next js none = ap (kept_where k next) none
@@ -275,6 +280,7 @@ idle_ends rules l units results o none = maps_nothing (GroupEnds rules l units r
       next = settled;
       left = inl (nothing, refl);
       rises = ([], [], refl, tt, ([], [], refl, tt, refl));
+      reads = tt;
       over = s.over;
       loaded = subst (λ (k : Option Kept). IsLoaded k l)
           (sym (kept_still s.kept (kept_next s.kept (next_of_group j (option_map state_of s.kept) (judged_by units

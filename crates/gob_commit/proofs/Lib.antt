@@ -4,6 +4,7 @@ mod Parts
 mod Differing
 mod Fitting
 mod Joining
+mod Reading
 mod Stepping
 mod Beginning
 mod Pushing

@@ -39,6 +39,7 @@ use Rattle.gob_commit.proofs.Placing.{Places}
 use Rattle.gob_commit.proofs.Progress.{Came, SoFar, came_first, come_broken, come_more, come_stopped, come_to_end}
 use Rattle.gob_commit.proofs.Progress.{group_there, in_row, rise_still, so_far_first, so_far_last, so_far_more}
 use Rattle.gob_commit.proofs.Pushing.{drop_here, drop_none}
+use Rattle.gob_commit.proofs.Reading.{reads_cleaned, reads_still}
 use Rattle.gob_commit.proofs.Splitting.{Split, group_can, group_pairs, picked_results, picked_units, results_in}
 use Rattle.gob_commit.proofs.Splitting.{split_datasets, units_in}
 
@@ -283,6 +284,8 @@ clean_along rules l units results a clean = maps_then
       done = g.gone.done;
       rises = rise_still j.name g.last g.gone.maps xs ys g.gone.done.ends g.gone.rises
           (cleaned_each j g.last (last_map m xs) ys g.gone.done.closed g.over below);
+      reads = reads_still j.name g.last g.gone.maps xs ys g.gone.done.ends g.reads
+          (reads_cleaned j.name g.last (last_map m xs) ys g.over below);
     })
     a clean
 

@@ -32,7 +32,7 @@ use Rattle.gob_segments.specs.declared.change.Loaded.{Loaded}
 use Rattle.gob_seq.proofs.Trails.{if_both, maps_both, maps_still}
 use Rattle.gob_state.specs.Committed.{judged_by, verdict_in, verdicts_in}
 use Rattle.gob_commit.specs.declared.rules.CommitRules.{CommitRules}
-use Rattle.gob_commit.specs.Done.{EndsWith, GroupsDone, PublishApart}
+use Rattle.gob_commit.specs.Done.{EndsWith, GroupsDone, PublishApart, PublishedFrom}
 use Rattle.gob_commit.specs.Going.{GoesAlong, GoesOverAll, GoneAlong, GroupEnds, GroupRises}
 use Rattle.gob_commit.specs.Going.{GroupRose, LeadsToLast, LeadsToNext, LeavesStaging, LeftByGroup}
 use Rattle.gob_commit.specs.Laws.{HasRange}
@@ -44,6 +44,7 @@ use Rattle.gob_commit.proofs.Doing.{kept_more, one_more, uncommitted}
 use Rattle.gob_commit.proofs.Fitting.{source_below, source_staged}
 use Rattle.gob_commit.proofs.Names.{apart_units}
 use Rattle.gob_commit.proofs.Nexting.{next_is}
+use Rattle.gob_commit.proofs.Reading.{reads_on, reads_still}
 use Rattle.gob_commit.proofs.Splitting.{Split, group_apart, group_fit, group_is, group_made, group_pairs}
 use Rattle.gob_commit.proofs.Splitting.{group_units_fit, judged_in_groups, made_in, pair_in, rest_apart, results_in}
 use Rattle.gob_commit.proofs.Splitting.{sources_apart, split_apart, unit_in, units_in, units_judged}
@@ -154,6 +155,7 @@ pub record CameOver (j : Job) (held : Held) (o : Option State) (k : Option Kept)
   pub maps : List Files
   pub done : GroupsDone j held o settled before last maps
   pub rises : Rises (SettlesAs j.name) maps added
+  pub reads : EachOf (PublishedFrom j.name maps) added
   pub over : StagedOver j.name last now
   pub loaded : IsLoaded (kept_after j k before) l
 
@@ -179,6 +181,7 @@ came_here rules l units results gs m there = record {
     maps = settled ∷ [];
     done = none_done j held l units results settled m s.has;
     rises = ([], [], refl, tt, refl);
+    reads = tt;
     over = s.has.over;
     loaded = s.has.loaded;
   };
@@ -348,6 +351,7 @@ over_more rules l0 l after units results before rest g m xs ys can split came en
       done = subst (λ (x : List (List Judged)). GroupsDone j held l0.state settled x e.next (c.maps ++ e.next ∷ []))
           (sym (judged_more before g)) done;
       rises = rise_on j.name c.last e.next c.maps xs ys c.done.ends c.rises e.rises;
+      reads = reads_on j.name c.last e.next c.maps xs ys c.done.ends c.reads e.reads;
       over = e.over;
       loaded = subst (λ (k : Option Kept). IsLoaded k after)
           (ap (kept_after_group j (kept_after j s.has.kept b)) (group_is g)
@@ -433,14 +437,15 @@ broken rules l0 l units results before rest g m xs ys can split came rise j held
 
     cases : GroupRose j held c.last here.kept (judged_by (units_in g) (results_in g)) ys
         → GoneAlong j held l0.state (groups_of j.scope (judged_by units results)) settled (xs ++ ys)
-    cases (inl still) = record {
+    cases (inl stayed) = record {
       before = judged_in_groups before;
       rest = map judged g ∷ judged_in_groups rest;
       whole = whole;
       last = c.last;
       maps = c.maps;
       done = c.done;
-      rises = rise_still j.name c.last c.maps xs ys c.done.ends c.rises still;
+      rises = rise_still j.name c.last c.maps xs ys c.done.ends c.rises stayed.still;
+      reads = reads_still j.name c.last c.maps xs ys c.done.ends c.reads stayed.reads;
     }
     cases (inr went) = record {
       before = judged_in_groups before ++ map judged g ∷ [];
@@ -453,6 +458,7 @@ broken rules l0 l units results before rest g m xs ys can split came rise j held
           (publish_apart rules l0 units results before rest g m can split j held settled has s)
           (subst (λ (x : List Judged). LeftByGroup j held c.last here.kept x went.next) (group_is g) went.left);
       rises = rise_on j.name c.last went.next c.maps xs ys c.done.ends c.rises went.rises;
+      reads = reads_on j.name c.last went.next c.maps xs ys c.done.ends c.reads went.reads;
     }
 
 -- ---- the maps of the calls
@@ -484,6 +490,7 @@ come_stopped rules l0 l units results before rest split a = maps_map
       maps = c.maps;
       done = c.done;
       rises = c.rises;
+      reads = c.reads;
     }) a
 
 -- stopped within the next group
@@ -514,4 +521,5 @@ come_to_end rules l0 l units results gs split a = maps_map
         rises = c.rises;
       };
       over = c.over;
+      reads = c.reads;
     }) a

@@ -20,13 +20,14 @@ use Rattle.gob_recovery.specs.Settle.{SettlesAs, can_do, without_staging}
 use Rattle.gob_recovery.proofs.Again.{not_staged}
 use Rattle.gob_recovery.proofs.Commits.{staged_settles, without_alike, written}
 use Rattle.gob_history.specs.Laws.{group_steps, moves_of, removes_of, staged_state}
-use Rattle.gob_seq.specs.Maps.{EndsAs, GoesOver, IsReady, SettlesWell, after_write}
+use Rattle.gob_seq.specs.Maps.{CommitsByName, EndsAs, GoesOver, IsReady, SettlesWell, after_write}
 use Rattle.gob_seq.proofs.Named.{below_job}
 use Rattle.gob_seq.proofs.Trails.{if_both, maps_both, maps_known, rises_map}
 use Rattle.gob_commit.specs.Going.{ChangeNamed, InOrder, StepsEnd, StepsRise, settled_by, with_state}
 use Rattle.gob_commit.specs.Staged.{AreThere, NamesFit, Pair}
 use Rattle.gob_commit.proofs.Differing.{list_all_of}
 use Rattle.gob_commit.proofs.Fitting.{in_order, state_is_staged}
+use Rattle.gob_commit.proofs.Reading.{reads_before, reads_then}
 
 -- ---- the map with the state staged
 
@@ -108,6 +109,11 @@ as_before job m xs closed each =
     each-map (OnlyAt (staged_state job) m) (SettlesAs job (without_staging job m)) xs
     (λ n only. (staged_settles job m n closed (only_below job m n only)).1) each
 
+all_below : (job : List ℕ) (m : Files) (xs : List Files) → EachOf (OnlyAt (staged_state job) m) xs
+    → EachOf (OnlyBelow (staging job) m) xs
+all_below job m xs each =
+    each-map (OnlyAt (staged_state job) m) (OnlyBelow (staging job) m) xs (λ n only. only_below job m n only) each
+
 before_rises : (job : List ℕ) (m n : Files) (xs : List Files) → EachOf (SettlesAs job (without_staging job m)) xs
     → Rises (SettlesAs job) (without_staging job m ∷ n ∷ []) xs
 unfolding Rises
@@ -138,7 +144,7 @@ pub nothing_rises : (job : List ℕ) (c : Change) (pairs : List Pair) (o : Optio
     → AddsMaps (StepsRise job c pairs) o o
 unfolding Rises
 nothing_rises job c pairs o order = maps_nothing (StepsRise job c pairs)
-    (λ m. record { sorted = pairs; order = order; rises = ([], [], refl, tt, ([], [], refl, tt, refl)) }) o
+    (λ m. record { sorted = pairs; order = order; rises = ([], [], refl, tt, ([], [], refl, tt, refl)); reads = tt }) o
 
 pub as_it_is : (job : List ℕ) (c : Change) (pairs : List Pair) → is_file_name job ≡ true → NamesFit job pairs
     → ChangeNamed job c → InOrder job c pairs pairs
@@ -152,6 +158,7 @@ written_rises job name c pairs sorted {old} {new} is order a = maps_map
       sorted = sorted;
       order = order;
       rises = before_rises job m (settled_by job c sorted m) xs (as_before job m xs there.closed each);
+      reads = reads_before job m (settled_by job c sorted m) xs (all_below job m xs each);
     })
     (subst (λ n. Along (OnlyAt n) old new) is a)
 
@@ -181,29 +188,33 @@ pub done_rises : (job name : List ℕ) (c : Change) (pairs sorted : List Pair) {
     → name ≡ staged_state job → InOrder job c pairs sorted → Along (OnlyAt name) old between
     → AddsMaps (EndsAs (with_state job c)) old between
     → AddsMaps (GoesOver job (group_steps job c sorted)) between new
+    → Along (CommitsByName job (group_steps job c sorted)) between new
     → AddsMaps (WhereThere job pairs (StepsRise job c pairs)) old new
-done_rises job name c pairs sorted {old} {between} is order a ends b = maps_then
+done_rises job name c pairs sorted {old} {between} is order a ends b reads = maps_then
     (λ m xs ys p q there. record {
       sorted = sorted;
       order = order;
-      rises = then_rises job c sorted m (last_map m xs) xs ys (as_before job m xs there.closed p.0) p.1 q;
+      rises = then_rises job c sorted m (last_map m xs) xs ys (as_before job m xs there.closed p.0) p.1 q.0;
+      reads = reads_then job c sorted m (last_map m xs) xs ys (state_below job c m) (all_below job m xs p.0) p.1 q.1;
     })
-    (maps_both (subst (λ n. Along (OnlyAt n) old between) is a) ends) b
+    (maps_both (subst (λ n. Along (OnlyAt n) old between) is a) ends) (maps_both b reads)
 
 pub done_ends : (job name : List ℕ) (c : Change) (pairs sorted : List Pair) {old between new : Option Disk}
     → name ≡ staged_state job → InOrder job c pairs sorted → Along (OnlyAt name) old between
     → AddsMaps (EndsAs (with_state job c)) old between
     → AddsMaps (GoesOver job (group_steps job c sorted)) between new
+    → Along (CommitsByName job (group_steps job c sorted)) between new
     → AddsMaps (EndsAs (part_done job (group_steps job c sorted))) between new
     → AddsMaps (WhereThere job pairs (StepsEnd job c pairs)) old new
-done_ends job name c pairs sorted {old} {between} {new} is order a ends b over = maps_then
+done_ends job name c pairs sorted {old} {between} {new} is order a ends b reads over = maps_then
     (λ m xs ys p q there. record {
       sorted = sorted;
       order = order;
-      rises = then_rises job c sorted m (last_map m xs) xs ys (as_before job m xs there.closed p.0) p.1 q.0;
+      rises = then_rises job c sorted m (last_map m xs) xs ys (as_before job m xs there.closed p.0) p.1 q.0.0;
+      reads = reads_then job c sorted m (last_map m xs) xs ys (state_below job c m) (all_below job m xs p.0) p.1 q.0.1;
       ends = last-append m xs ys ∙ (q.1 ∙ ap (part_done job (group_steps job c sorted)) p.1);
     })
-    (maps_both (subst (λ n. Along (OnlyAt n) old between) is a) ends) (maps_both b over)
+    (maps_both (subst (λ n. Along (OnlyAt n) old between) is a) ends) (maps_both (maps_both b reads) over)
 
 -- names of the job's folder alone
 pub written_below : (job name : List ℕ) {old new : Option Disk} → name ≡ staged_state job

@@ -1,8 +1,10 @@
 -- What the commits of a run's first groups have done.
-use Rattle.std.specs.Prelude.{◌≡◌, ℕ, List, [], ◌∷◌}
+use Rattle.std.specs.Prelude.{◌≡◌, ℕ, true, List, [], ◌∷◌}
 use Rattle.std.specs.declared.option.Option.{Option}
-use Rattle.std.specs.List.{flat_map}
-use Rattle.gob_device.specs.Disk.{Files}
+use Rattle.std.specs.declared.option.Option.TheVariants.{Some}
+use Rattle.std.specs.List.{Contains, flat_map}
+use Rattle.gob_bytes.specs.Paths.{is_published}
+use Rattle.gob_device.specs.Disk.{File, Files}
 use Rattle.gob_device.specs.Supply.{Held}
 use Rattle.gob_meaning.specs.Job.{Job}
 use Rattle.gob_ledger.specs.State.{State}
@@ -18,6 +20,11 @@ abbrev pub EndsWith : Files → List Files → Type 0
 EndsWith m [] = ⊥
 EndsWith m (n ∷ []) = m ≡ n
 EndsWith m (n ∷ k ∷ ks) = EndsWith m (k ∷ ks)
+
+-- each published file of the map is one that one of these maps has
+abbrev pub PublishedFrom : List ℕ → List Files → Files → Type 0
+PublishedFrom job maps n = (name : List ℕ) (f : File) → is_published job name ≡ true → n name ≡ Some f
+    → (k : Files) × Contains maps k × (k name ≡ Some f)
 
 -- the groups before were committed one after the other, over a settled map that stores this state: each commit left a
 -- settled map, and the last one tells what the groups have made

@@ -24,7 +24,7 @@ use Rattle.gob_seq.specs.Maps.{after_write}
 use Rattle.gob_state.specs.Committed.{judged_by, verdicts_in}
 use Rattle.gob_commit.specs.declared.rules.CommitRules.{CommitRules}
 use Rattle.gob_commit.specs.declared.rules.Committed.{Committed}
-use Rattle.gob_commit.specs.Done.{GroupsDone}
+use Rattle.gob_commit.specs.Done.{GroupsDone, PublishedFrom}
 use Rattle.gob_segments.specs.Loading.{IsLoaded, LoadedFits}
 use Rattle.gob_commit.specs.Staged.{HasRules, HasStaged, Pair, RunHasStaged, state_or}
 
@@ -38,7 +38,7 @@ pub record CommitsAre (rules : CommitRules) (l : Loaded) (units : List WorkUnit)
   pub committed : c.committed
       ≡ map (is_committed rules.scope rules.policy (judged_by units results)) (judged_by units results)
 
--- the maps settle along the commits of the first groups
+-- the maps settle along the commits of the first groups, and each published file is one that one of these left
 pub record GoneAlong (j : Job) (held : Held) (o : Option State) (groups : List (List Judged)) (settled : Files)
     (added : List Files) : Type 0 where
   pub before : List (List Judged)
@@ -48,6 +48,7 @@ pub record GoneAlong (j : Job) (held : Held) (o : Option State) (groups : List (
   pub maps : List Files
   pub done : GroupsDone j held o settled before last maps
   pub rises : Rises (SettlesAs j.name) maps added
+  pub reads : EachOf (PublishedFrom j.name maps) added
 
 -- the maps settle along the commits of all groups, and this is what the last one left
 pub record GoneToEnd (j : Job) (held : Held) (o : Option State) (groups : List (List Judged)) (settled : Files)
@@ -62,6 +63,7 @@ pub record GoneOver (j : Job) (held : Held) (o : Option State) (groups : List (L
   pub last : Files
   pub gone : GoneToEnd j held o groups settled added last
   pub over : StagedOver j.name last now
+  pub reads : EachOf (PublishedFrom j.name gone.maps) added
 
 -- of each job with these rules that has staged what its units make
 abbrev pub OfEachJob : CommitRules → Loaded → List WorkUnit → List UnitResult
@@ -114,11 +116,16 @@ pub record GroupWent (j : Job) (held : Held) (settled : Files) (k : Option Kept)
   pub next : Files
   pub left : LeftByGroup j held settled k group next
   pub rises : Rises (SettlesAs j.name) (settled ∷ next ∷ []) added
+  pub reads : EachOf (PublishedFrom j.name (settled ∷ next ∷ [])) added
+
+-- the maps settle as before the group's commit
+pub record GroupStayed (job : List ℕ) (settled : Files) (added : List Files) : Type 0 where
+  pub still : EachOf (SettlesAs job settled) added
+  pub reads : EachOf (PublishedFrom job (settled ∷ [])) added
 
 -- whatever is answered: the commit has not begun, or was done or stopped on its way
 abbrev pub GroupRose : Job → Held → Files → Option Kept → List Judged → List Files → Type 0
-GroupRose j held settled k group added = EachOf (SettlesAs j.name settled) added
-    ⊎ GroupWent j held settled k group added
+GroupRose j held settled k group added = GroupStayed j.name settled added ⊎ GroupWent j held settled k group added
 
 -- the group is committed
 pub record GroupEnded (j : Job) (held : Held) (settled : Files) (k : Option Kept) (group : List Judged)
@@ -126,6 +133,7 @@ pub record GroupEnded (j : Job) (held : Held) (settled : Files) (k : Option Kept
   pub next : Files
   pub left : LeftByGroup j held settled k group next
   pub rises : Rises (SettlesAs j.name) (settled ∷ next ∷ []) added
+  pub reads : EachOf (PublishedFrom j.name (settled ∷ next ∷ [])) added
   pub over : StagedOver j.name next now
   pub loaded : IsLoaded (kept_after_group j k group) after
 
@@ -188,10 +196,12 @@ pub record StepsRise (job : List ℕ) (change : Change) (pairs : List Pair) (m :
     pub sorted : List Pair
     pub order : InOrder job change pairs sorted
     pub rises : Rises (SettlesAs job) (without_staging job m ∷ settled_by job change sorted m ∷ []) added
+    pub reads : EachOf (PublishedFrom job (without_staging job m ∷ settled_by job change sorted m ∷ [])) added
 
 -- all steps are done
 pub record StepsEnd (job : List ℕ) (change : Change) (pairs : List Pair) (m : Files) (added : List Files) : Type 0 where
   pub sorted : List Pair
   pub order : InOrder job change pairs sorted
   pub rises : Rises (SettlesAs job) (without_staging job m ∷ settled_by job change sorted m ∷ []) added
+  pub reads : EachOf (PublishedFrom job (without_staging job m ∷ settled_by job change sorted m ∷ [])) added
   pub ends : last_map m added ≡ part_done job (group_steps job change sorted) (with_state job change m)

@@ -40,7 +40,7 @@ write_others name bytes other m e =
     ∙ (ap (λ b. cond b (option_map (with_more bytes) (made name)) (made other)) e
     ∙ ap (λ b. cond b (Some (clean [])) (m other)) e)
 
-opens : (job : List ℕ) (steps : List CommitStep) (m : Files) → Opens job steps m (opened_map job steps m)
+pub opens : (job : List ℕ) (steps : List CommitStep) (m : Files) → Opens job steps m (opened_map job steps m)
 opens job steps m =
     renamed_opens job steps m (after_write (staged_sequence job) (sequence_text steps) m)
     (written (staged_sequence job) (sequence_text steps) m)
@@ -70,7 +70,7 @@ after_well : (job : List ℕ) (steps : List CommitStep) (m n : Files) → CanCom
 after_well job steps m n can below =
     let both = closed_settles job steps m n can below in record { settles = both.0; images = both.1 }
 
-finish_part : (job : List ℕ) (steps : List CommitStep) (m last : Files) → CanCommit job steps m
+pub finish_part : (job : List ℕ) (steps : List CommitStep) (m last : Files) → CanCommit job steps m
     → last ≡ opened_map job steps m → finished (sequence_name job) steps last ≡ part_done job steps m
 finish_part job steps m last can is =
     ap (finished (sequence_name job) steps) is ∙ closes_is job steps m (opened_map job steps m) can (opens job steps m)

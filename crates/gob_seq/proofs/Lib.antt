@@ -11,3 +11,4 @@ pub mod Rows
 pub mod Losing
 pub mod ByNames
 pub mod Openings
+pub mod Readers

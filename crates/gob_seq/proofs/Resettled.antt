@@ -44,7 +44,7 @@ goes_images job m n g = λ settled quiet s. images_alike job n settled (g.untorn
 
 -- ---- an open sequence is done
 
-to_after : (job : List ℕ) (m : Files) (steps : List CommitStep) → CanFinish job m steps → (settled : Files)
+pub to_after : (job : List ℕ) (m : Files) (steps : List CommitStep) → CanFinish job m steps → (settled : Files)
     → Settles job m settled → after_finish job steps m ≡ settled
 to_after job m steps can settled s = to_one job m (after_finish job steps m) settled
     (inr (steps, can.opened, can.can, refl)) s

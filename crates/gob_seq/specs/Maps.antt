@@ -1,8 +1,8 @@
 -- What the maps that a call adds are to the map that stood before it.
-use Rattle.std.specs.Prelude.{◌≡◌, ◌⊎◌, ℕ, true, false, List, ◌∷◌, ◌++◌, take}
+use Rattle.std.specs.Prelude.{◌≡◌, ◌≢◌, ◌⊎◌, ℕ, true, false, List, ◌∷◌, ◌++◌, take}
 use Rattle.std.specs.declared.option.Option.TheVariants.{None}
 use Rattle.std.specs.List.{list_all}
-use Rattle.gob_bytes.specs.Paths.{sequence_name}
+use Rattle.gob_bytes.specs.Paths.{begins_with, sequence_name, staging}
 use Rattle.gob_device.specs.Disk.{Files, Rises, last_map, after_create, after_append, after_sync, after_remove}
 use Rattle.gob_recovery.specs.Sequence.{CommitStep, move}
 use Rattle.gob_recovery.specs.Settle.{do_steps, can_do, without_staging, Open, Settles, SettlesAs}
@@ -79,6 +79,23 @@ pub record SettlesWell (job : List ℕ) (settled m : Files) : Type 0 where
 -- the maps settle to what the first one did without the steps, and from some map on to what it does with them
 abbrev pub GoesOver : List ℕ → List CommitStep → Files → List Files → Type 0
 GoesOver job steps m added = Rises (SettlesWell job) (two_settled job steps m) added
+
+-- ---- what a reader meets who doesn't wait for settling
+
+-- outside the staging each name but the open sequence's has the file of the first map or of the settled one
+abbrev pub HoldsOneOf : List ℕ → Files → Files → Files → Type 0
+HoldsOneOf job m settled n = (name : List ℕ) → begins_with (staging job) name ≡ false → name ≢ sequence_name job
+    → (n name ≡ m name) ⊎ (n name ≡ settled name)
+
+-- the same of whatever the map settles to
+abbrev pub SettlesByName : List ℕ → Files → Files → Type 0
+SettlesByName job m n = (settled : Files) → Settles job m settled → HoldsOneOf job m settled n
+
+-- the same of what a commit's steps leave
+abbrev pub CommitsByName : List ℕ → List CommitStep → Files → Files → Type 0
+CommitsByName job steps m n = HoldsOneOf job m (do_steps steps m) n
+
+-- ---- a file that is written
 
 -- a file that holds these bytes, all of them kept
 abbrev pub after_write : List ℕ → List ℕ → Files → Files

@@ -9,7 +9,7 @@ ghost use Rattle.gob_recovery.specs.Commits.{OnlyBelow, part_done};
 ghost use Rattle.gob_recovery.specs.Sequence.{WellFormed};
 ghost use Rattle.gob_recovery.specs.Settle.{do_steps, without_staging};
 ghost use Rattle.gob_seq.specs.Faults.{RoseIfFailed};
-ghost use Rattle.gob_seq.specs.Maps.{EndsAs, GoesOver, IsReady, after_write};
+ghost use Rattle.gob_seq.specs.Maps.{CommitsByName, EndsAs, GoesOver, IsReady, after_write};
 
 use crate::CommitFault;
 use crate::place::Place;
@@ -58,6 +58,7 @@ pub fn commit<V: Volume>(
     requires fits { WellFormed job.now sequence.now }
     requires ready { IfSome (V.disk volume.old) (λ d. IsReady job.now sequence.now d.files) }
     ensures rises { AddsMaps (GoesOver job.now sequence.now) (V.disk volume.old) (V.disk volume.new) }
+    ensures readers { Along (CommitsByName job.now sequence.now) (V.disk volume.old) (V.disk volume.new) }
     ensures ok { OnOk result (AddsMaps (EndsAs (λ m. without_staging job.now (do_steps sequence.now m)))
         (V.disk volume.old) (V.disk volume.new)) }
     ensures below { Along (OnlyBelow (under job.now [])) (V.disk volume.old) (V.disk volume.new) }
@@ -80,6 +81,7 @@ pub fn commit_part<V: Volume>(
     requires fits { WellFormed job.now sequence.now }
     requires ready { IfSome (V.disk volume.old) (λ d. IsReady job.now sequence.now d.files) }
     ensures rises { AddsMaps (GoesOver job.now sequence.now) (V.disk volume.old) (V.disk volume.new) }
+    ensures readers { Along (CommitsByName job.now sequence.now) (V.disk volume.old) (V.disk volume.new) }
     ensures ok { OnOk result (AddsMaps (EndsAs (part_done job.now sequence.now))
         (V.disk volume.old) (V.disk volume.new)) }
     ensures below { Along (OnlyBelow (under job.now [])) (V.disk volume.old) (V.disk volume.new) }

@@ -1,6 +1,6 @@
 use Rattle.std.proofs.Common.{◌≡◌, ◌∙◌, [], List, ap, sym, subst, IfSome}
 use Rattle.gob_bytes.specs.Paths.{under}
-use Rattle.gob_device.specs.Disk.{AddsMaps}
+use Rattle.gob_device.specs.Disk.{AddsMaps, Along}
 use Rattle.gob_device.specs.Names.{IsPathname}
 use Rattle.gob_device.proofs.Trail.{along_then}
 use Rattle.gob_ledger.specs.Delta.{Change, change_of}
@@ -8,7 +8,7 @@ use Rattle.gob_recovery.specs.Commits.{OnlyBelow, part_done}
 use Rattle.gob_recovery.specs.Sequence.{CommitStep}
 use Rattle.gob_recovery.proofs.Commits.{below_then}
 use Rattle.gob_history.specs.Laws.{staged_state}
-use Rattle.gob_seq.specs.Maps.{EndsAs, GoesOver, IsReady}
+use Rattle.gob_seq.specs.Maps.{CommitsByName, EndsAs, GoesOver, IsReady}
 use Rattle.gob_commit.specs.Going.{ChangeNamed, DoesChange}
 use Rattle.gob_commit.specs.Staged.{all_pairs}
 use Rattle.gob_commit.proofs.Fitting.{change_named, file_pathname, staged_state_named}
@@ -117,8 +117,10 @@ returns-in_err-commit_part-clause-rises g c =
     let ends = state_ends job _ _ change name text c.in_ok-write_file.ensures.ok in
     let over = subst (λ (ss : List CommitStep). AddsMaps (GoesOver job ss) (g.V.Volume.disk c.write_file.new.volume)
     (g.V.Volume.disk c.commit_part.new.volume)) does.are c.commit_part.ensures.rises in
+    let reads = subst (λ (ss : List CommitStep). Along (CommitsByName job ss) (g.V.Volume.disk c.write_file.new.volume)
+    (g.V.Volume.disk c.commit_part.new.volume)) does.are c.commit_part.ensures.readers in
     where_there job pairs c.requires.there
-    (done_rises job _ change pairs does.sorted name does.order c.write_file.ensures.only ends over)
+    (done_rises job _ change pairs does.sorted name does.order c.write_file.ensures.only ends over reads)
 
 pub returns-clause-rises : goal.returns-clause-rises
 returns-clause-rises g c =
@@ -135,8 +137,10 @@ returns-clause-rises g c =
     let ends = state_ends job _ _ change name text c.in_ok-write_file.ensures.ok in
     let over = subst (λ (ss : List CommitStep). AddsMaps (GoesOver job ss) (g.V.Volume.disk c.write_file.new.volume)
     (g.V.Volume.disk c.commit_part.new.volume)) does.are c.commit_part.ensures.rises in
+    let reads = subst (λ (ss : List CommitStep). Along (CommitsByName job ss) (g.V.Volume.disk c.write_file.new.volume)
+    (g.V.Volume.disk c.commit_part.new.volume)) does.are c.commit_part.ensures.readers in
     where_there job pairs c.requires.there
-    (done_rises job _ change pairs does.sorted name does.order c.write_file.ensures.only ends over)
+    (done_rises job _ change pairs does.sorted name does.order c.write_file.ensures.only ends over reads)
 
 pub returns-in_err-commit_part-clause-below : goal.returns-in_err-commit_part-clause-below
 returns-in_err-commit_part-clause-below g c =
@@ -167,7 +171,9 @@ returns-clause-ok g c =
     let ends = state_ends job _ _ change name text c.in_ok-write_file.ensures.ok in
     let over = subst (λ (ss : List CommitStep). AddsMaps (GoesOver job ss) (g.V.Volume.disk c.write_file.new.volume)
     (g.V.Volume.disk c.commit_part.new.volume)) does.are c.commit_part.ensures.rises in
+    let reads = subst (λ (ss : List CommitStep). Along (CommitsByName job ss) (g.V.Volume.disk c.write_file.new.volume)
+    (g.V.Volume.disk c.commit_part.new.volume)) does.are c.commit_part.ensures.readers in
     where_there job pairs c.requires.there
-    (done_ends job _ change pairs does.sorted name does.order c.write_file.ensures.only ends over
+    (done_ends job _ change pairs does.sorted name does.order c.write_file.ensures.only ends over reads
     (subst (λ (ss : List CommitStep). AddsMaps (EndsAs (part_done job ss)) (g.V.Volume.disk c.write_file.new.volume)
     (g.V.Volume.disk c.commit_part.new.volume)) does.are c.in_ok-commit_part.ensures.ok))

@@ -8,17 +8,21 @@ use Rattle.gob_device.proofs.Trail.{along_nothing}
 use Rattle.gob_recovery.specs.Commits.{OnlyBelow}
 use Rattle.gob_recovery.specs.Sequence.{CommitStep}
 use Rattle.gob_seq.specs.Faults.{Damages}
-use Rattle.gob_seq.specs.Maps.{Becomes, GoesOn, SettlesUnstaged}
+use Rattle.gob_seq.specs.Maps.{Becomes, GoesOn, SettlesByName, SettlesUnstaged}
 use Rattle.gob_seq.specs.Steps.{is_callable}
 use Rattle.gob_seq.specs.declared.place.Place.{Place}
 use Rattle.gob_seq.proofs.ByNames.{done_becomes, done_below, done_goes}
 use Rattle.gob_seq.proofs.Named.{callable, sequence_named}
+use Rattle.gob_seq.proofs.Readers.{done_read}
 use Rattle.gob_seq.proofs.Resettled.{becomes_undamaged, can_undamaged, closed_becomes, closed_was, err_damages, err_due}
 use Rattle.gob_seq.proofs.Resettled.{open_was, undamaged_due}
 use Rattle.gob_seq.proofs.settling.finish_open.Goals as goal
 
 pub returns-in_err-place-clause-goes : goal.returns-in_err-place-clause-goes
 returns-in_err-place-clause-goes g c = along_nothing (GoesOn c.args.job.now) _
+
+pub returns-in_err-place-clause-readers : goal.returns-in_err-place-clause-readers
+returns-in_err-place-clause-readers g c = along_nothing (SettlesByName c.args.job.now) _
 
 pub returns-in_err-place-clause-below : goal.returns-in_err-place-clause-below
 returns-in_err-place-clause-below g c = along_nothing (OnlyBelow (under c.args.job.now [])) _
@@ -52,6 +56,11 @@ returns-in_err-sequence-clause-goes g c =
     subst (Along (GoesOn c.args.job.now) (g.V.Volume.disk c.args.volume.now)) (sym c.open_sequence.ensures.disk)
     (along_nothing (GoesOn c.args.job.now) _)
 
+pub returns-in_err-sequence-clause-readers : goal.returns-in_err-sequence-clause-readers
+returns-in_err-sequence-clause-readers g c =
+    subst (Along (SettlesByName c.args.job.now) (g.V.Volume.disk c.args.volume.now)) (sym c.open_sequence.ensures.disk)
+    (along_nothing (SettlesByName c.args.job.now) _)
+
 pub returns-in_err-sequence-clause-below : goal.returns-in_err-sequence-clause-below
 returns-in_err-sequence-clause-below g c =
     subst (Along (OnlyBelow (under c.args.job.now [])) (g.V.Volume.disk c.args.volume.now))
@@ -81,6 +90,14 @@ returns-in_err-finish-clause-goes g c =
     done_goes c.args.job.now _ c.in-Some.sequence _ opened c.steps.ensures c.open_sequence.ensures.disk can
     c.finish.ensures.maps
 
+pub returns-in_err-finish-clause-readers : goal.returns-in_err-finish-clause-readers
+returns-in_err-finish-clause-readers g c =
+    let opened : c.as_str-opened.result.now ≡ sequence_name c.args.job.now =
+    c.as_str-opened.ensures ∙ ap (λ (p : Place). p.sequence) c.in_ok-place.ensures in
+    let can = rw c.in-Some.is at c.in_ok-sequence.ensures.found in
+    done_read c.args.job.now _ c.in-Some.sequence _ opened c.steps.ensures c.open_sequence.ensures.disk can
+    c.finish.ensures.maps
+
 pub returns-in_err-finish-clause-below : goal.returns-in_err-finish-clause-below
 returns-in_err-finish-clause-below g c =
     let opened : c.as_str-opened.result.now ≡ sequence_name c.args.job.now =
@@ -99,6 +116,14 @@ returns-clause-goes g c =
     c.as_str-opened.ensures ∙ ap (λ (p : Place). p.sequence) c.in_ok-place.ensures in
     let can = rw c.in-Some.is at c.in_ok-sequence.ensures.found in
     done_goes c.args.job.now _ c.in-Some.sequence _ opened c.steps.ensures c.open_sequence.ensures.disk can
+    c.finish.ensures.maps
+
+pub returns-clause-readers : goal.returns-clause-readers
+returns-clause-readers g c =
+    let opened : c.as_str-opened.result.now ≡ sequence_name c.args.job.now =
+    c.as_str-opened.ensures ∙ ap (λ (p : Place). p.sequence) c.in_ok-place.ensures in
+    let can = rw c.in-Some.is at c.in_ok-sequence.ensures.found in
+    done_read c.args.job.now _ c.in-Some.sequence _ opened c.steps.ensures c.open_sequence.ensures.disk can
     c.finish.ensures.maps
 
 pub returns-clause-below : goal.returns-clause-below
@@ -130,6 +155,11 @@ pub returns-in_default-clause-goes : goal.returns-in_default-clause-goes
 returns-in_default-clause-goes g c =
     subst (Along (GoesOn c.args.job.now) (g.V.Volume.disk c.args.volume.now)) (sym c.open_sequence.ensures.disk)
     (along_nothing (GoesOn c.args.job.now) _)
+
+pub returns-in_default-clause-readers : goal.returns-in_default-clause-readers
+returns-in_default-clause-readers g c =
+    subst (Along (SettlesByName c.args.job.now) (g.V.Volume.disk c.args.volume.now)) (sym c.open_sequence.ensures.disk)
+    (along_nothing (SettlesByName c.args.job.now) _)
 
 pub returns-in_default-clause-below : goal.returns-in_default-clause-below
 returns-in_default-clause-below g c =

@@ -7,6 +7,7 @@ use Rattle.gob_recovery.proofs.Commits.{below_then}
 use Rattle.gob_seq.specs.Faults.{Damages, settle_of_commit}
 use Rattle.gob_seq.specs.Maps.{GoesOn, ImagesSettleTheSame, SettlesTheSame}
 use Rattle.gob_seq.proofs.Named.{below_job}
+use Rattle.gob_seq.proofs.Readers.{settles_read_cleaned}
 use Rattle.gob_seq.proofs.Resettled.{becomes_undamaged, commit_damages, commit_rose, due_again, err_damages}
 use Rattle.gob_seq.proofs.Resettled.{goes_cleaned, goes_images, rose_again, settles_cleaned, undamaged_due}
 use Rattle.gob_seq.proofs.settling.settle.Goals as goal
@@ -49,6 +50,10 @@ returns-in_err-clean_staging-clause-images g c =
     along_map (GoesOn c.args.job.now) (ImagesSettleTheSame c.args.job.now) (goes_images c.args.job.now)
     (goes_cleaned c.args.job.now c.finish_open.ensures.goes c.in_ok-was_open.ensures.ok c.clean_staging.ensures.below)
 
+pub returns-in_err-clean_staging-clause-readers : goal.returns-in_err-clean_staging-clause-readers
+returns-in_err-clean_staging-clause-readers g c =
+    settles_read_cleaned c.args.job.now c.finish_open.ensures.readers c.clean_staging.ensures.below
+
 pub returns-in_err-clean_staging-clause-damaged : goal.returns-in_err-clean_staging-clause-damaged
 returns-in_err-clean_staging-clause-damaged g c =
     let p = err_from_is_err_and c.from_residual-in_err-clean_staging.result
@@ -86,6 +91,10 @@ pub returns-clause-images : goal.returns-clause-images
 returns-clause-images g c =
     along_map (GoesOn c.args.job.now) (ImagesSettleTheSame c.args.job.now) (goes_images c.args.job.now)
     (goes_cleaned c.args.job.now c.finish_open.ensures.goes c.in_ok-was_open.ensures.ok c.clean_staging.ensures.below)
+
+pub returns-clause-readers : goal.returns-clause-readers
+returns-clause-readers g c =
+    settles_read_cleaned c.args.job.now c.finish_open.ensures.readers c.clean_staging.ensures.below
 
 pub returns-clause-ok : goal.returns-clause-ok
 returns-clause-ok g c = settles_cleaned c.args.job.now c.in_ok-was_open.ensures.ok c.in_ok-clean_staging.ensures.ok
