@@ -1,4 +1,4 @@
-mod Doing
+pub mod Doing
 mod Names
 mod Parts
 mod Differing

@@ -1,1 +1,5 @@
 mod Entering
+mod Fitting
+mod Staging
+mod Worked
+mod Called

@@ -1,9 +1,10 @@
 //! The turns of a run's units, and the commits behind them.
-ghost use Rattle.std.specs.Prelude.{◌≡◌, true, [], IfSome, None};
+ghost use Rattle.std.specs.Prelude.{◌≡◌, true, [], IfOk, IfSome, None};
 ghost use Rattle.gob_bytes.specs.Paths.{sequence_name};
 ghost use Rattle.gob_commit.specs.Staged.{HasRules};
 ghost use Rattle.gob_job.specs.Jobs.{job_from};
 ghost use Rattle.gob_jobs.specs.Laws.{IsJob};
+ghost use Rattle.gob_ledger.specs.Spelling.{IsKeptPipeline};
 ghost use Rattle.gob_recovery.specs.Sequence.{is_file_name};
 ghost use Rattle.gob_segments.specs.Loading.{LoadedFits};
 ghost use Rattle.gob_run.specs.Cutting.{CutFits, parts_of};
@@ -40,10 +41,20 @@ pub(crate) fn work_on<S: Source, V: Volume>(
     requires cut { CutFits (parts_of loaded.state) job.now.limits (S.supply source.old) cut }
     requires closed { IfSome (V.disk volume.old) (λ d. d.files (sequence_name job.now.name) ≡ None) }
     ensures { Worked (job_from job.now) failed.new loaded cut result
-        (record { supply = S.supply source.old; source_faults = S.faults source.old;
-            plan_faults = S.plan_faults source.old; disk = V.disk volume.old; volume_faults = V.faults volume.old })
-        (record { supply = S.supply source.new; source_faults = S.faults source.new;
-            plan_faults = S.plan_faults source.new; disk = V.disk volume.new; volume_faults = V.faults volume.new }) }
+        (record {
+          supply = S.supply source.old;
+          source_faults = S.faults source.old;
+          plan_faults = S.plan_faults source.old;
+          disk = V.disk volume.old;
+          volume_faults = V.faults volume.old;
+        })
+        (record {
+          supply = S.supply source.new;
+          source_faults = S.faults source.new;
+          plan_faults = S.plan_faults source.new;
+          disk = V.disk volume.new;
+          volume_faults = V.faults volume.new;
+        }) }
 {
     let Cut { units, too_long } = cut;
     let rules = task_rules(alloc, job)?;
@@ -79,23 +90,25 @@ fn task_rules(alloc: Global, job: &Job) -> Result<TaskRules, NoMemory>
     requires right { IsJob job.now.name (job_from job.now) }
     requires named { is_file_name job.now.name ≡ true }
     ensures { IfOk result (λ rules. rules ≡ record {
-        job = job.now.name; plan = job.now.plan; piece = job.now.turns.piece; max_retries = job.now.max_retries }) }
+      job = job.now.name;
+      plan = job.now.plan;
+      piece = job.now.turns.piece;
+      max_retries = job.now.max_retries;
+    }) }
 {
     let pipeline = Pipeline::new(alloc, &job.plan)?;
     let name = job.name.copy()?;
-    Ok(TaskRules::new(
-        name,
-        pipeline,
-        job.turns.piece,
-        job.max_retries,
-    ))
+    Ok(TaskRules::new(name, pipeline, job.turns.piece, job.max_retries))
 }
 
 // By what the units of a job are committed.
 fn commit_rules(job: &Job) -> CommitRules<'_>
     requires right { IsJob job.now.name (job_from job.now) }
-    ensures { HasRules (job_from job.now) result }
+    ensures rules { HasRules (job_from job.now) result }
+    ensures kept { IsKeptPipeline result.pipeline.now }
 {
+    // What is in memory is short enough for a file to tell its length.
+    let _length = job.pipeline.len();
     CommitRules {
         job: job.name.as_str(),
         pipeline: job.pipeline.as_str(),
