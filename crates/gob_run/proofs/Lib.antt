@@ -11,3 +11,7 @@ mod Answering
 mod Settled
 mod Rooms
 mod Refusing
+mod Fitting
+mod Staging
+mod Worked
+mod Called

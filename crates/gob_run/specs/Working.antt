@@ -50,7 +50,7 @@ WentAlong job held o units failing settled added =
 abbrev pub WentToEnd : Job → Held → Option State → List WorkUnit → List ℕ → Files → List Files → Type 0
 WentToEnd job held o units failing settled added =
     WorkGoes (λ commits. GoneToEnd job held o (groups_over job held units failing) settled commits
-        (last_map settled added)) job.name settled added
+    (last_map settled added)) job.name settled added
 
 -- over a settled map of which all was loaded, where both devices tell
 abbrev pub OverLoaded : Job → Loaded → World → World → (Held → Files → List Files → Type 0) → Type 0

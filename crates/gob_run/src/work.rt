@@ -41,10 +41,20 @@ pub(crate) fn work_on<S: Source, V: Volume>(
     requires cut { CutFits (parts_of loaded.state) job.now.limits (S.supply source.old) cut }
     requires closed { IfSome (V.disk volume.old) (λ d. d.files (sequence_name job.now.name) ≡ None) }
     ensures { Worked (job_from job.now) failed.new loaded cut result
-        (record { supply = S.supply source.old; source_faults = S.faults source.old;
-            plan_faults = S.plan_faults source.old; disk = V.disk volume.old; volume_faults = V.faults volume.old })
-        (record { supply = S.supply source.new; source_faults = S.faults source.new;
-            plan_faults = S.plan_faults source.new; disk = V.disk volume.new; volume_faults = V.faults volume.new }) }
+        (record {
+          supply = S.supply source.old;
+          source_faults = S.faults source.old;
+          plan_faults = S.plan_faults source.old;
+          disk = V.disk volume.old;
+          volume_faults = V.faults volume.old;
+        })
+        (record {
+          supply = S.supply source.new;
+          source_faults = S.faults source.new;
+          plan_faults = S.plan_faults source.new;
+          disk = V.disk volume.new;
+          volume_faults = V.faults volume.new;
+        }) }
 {
     let Cut { units, too_long } = cut;
     let rules = task_rules(alloc, job)?;
@@ -80,16 +90,15 @@ fn task_rules(alloc: Global, job: &Job) -> Result<TaskRules, NoMemory>
     requires right { IsJob job.now.name (job_from job.now) }
     requires named { is_file_name job.now.name ≡ true }
     ensures { IfOk result (λ rules. rules ≡ record {
-        job = job.now.name; plan = job.now.plan; piece = job.now.turns.piece; max_retries = job.now.max_retries }) }
+      job = job.now.name;
+      plan = job.now.plan;
+      piece = job.now.turns.piece;
+      max_retries = job.now.max_retries;
+    }) }
 {
     let pipeline = Pipeline::new(alloc, &job.plan)?;
     let name = job.name.copy()?;
-    Ok(TaskRules::new(
-        name,
-        pipeline,
-        job.turns.piece,
-        job.max_retries,
-    ))
+    Ok(TaskRules::new(name, pipeline, job.turns.piece, job.max_retries))
 }
 
 // By what the units of a job are committed.
