@@ -85,14 +85,14 @@ is_done job failing l cut out old mid new u w = record {
       let b = begun job l cut old mid d u is_d in
       let told = w.told s (u.supply ∙ is_s) in
       let went = w.left b.0 s b.1 (u.supply ∙ is_s) (settled_is job.name d.files b.0.files b.2.settles) b.2.kept
-          b.2.keeps b.2.loaded in
+      b.2.keeps b.2.loaded in
       let t = with_pulls (pulls_in (turns_of job s.held cut.units failing)) s in (
         went.0,
         t,
         went.1,
         told.pulls,
         left_of job failing l cut out d b.0 went.0 s t (cut_told job l cut old mid s u is_s) b.2 w.units told.verdicts
-        went.2,
+            went.2,
       );
   gave_up = rose_by_after (given_up_in out.results * (job.max_retries + 1)) old.source_faults mid.source_faults
       new.source_faults u.goes_on.source w.gave_up;
@@ -106,13 +106,13 @@ no_refusal : (job : Job) (l : Loaded) (cut : Cut) (supply : Option Supply) (d c 
 no_refusal job l cut supply d c s (Damaged name) fits told b (broken _ is) = not_broken job.name l d c name b is
 no_refusal job l cut supply d c s (Shrunk part next size) fits told b (shrunk o _ _ _ entry is) =
     let parts = ap (λ q. (state_or_empty job q).parts) (found_is_one job.name l d c o b entry)
-        ∙ parts_same job l.state in
+    ∙ parts_same job l.state in
     let here : first_shrunk (parts_of l.state) (listing_of s.held) ≡ Some (part, size) =
     ap (λ p. first_shrunk p (listing_of s.held)) (sym parts) ∙ is.first in
     let none : None ≡ Some (part, size) = sym told.unshrunk ∙ here in cc
 no_refusal job l cut supply d c s (Full ranges units) fits told b (full o _ _ entry is) =
     let parts = ap (λ q. (state_or_empty job q).parts) (found_is_one job.name l d c o b entry)
-        ∙ parts_same job l.state in
+    ∙ parts_same job l.state in
     let stored : ranges ≡ range_count (parts_of l.state) = is.many.stored ∙ ap range_count parts in
     let fresh : units ≡ new_count cut.units =
     is.fresh ∙ ap (λ p. length (new_units p s.held job.limits)) parts
@@ -165,13 +165,13 @@ answered_behind_work job failing l cut a old mid new u w = record {
       let b = begun job l cut old mid d u is_d in
       let p = w.pulls s (u.supply ∙ is_s) in
       let went = w.along b.0 s b.1 (u.supply ∙ is_s) (settled_is job.name d.files b.0.files b.2.settles) b.2.kept
-          b.2.keeps b.2.loaded in (
+      b.2.keeps b.2.loaded in (
         went.0,
         with_pulls p.pulls s,
         went.1,
         p.supply,
         trail_of job failing l cut d b.0 went.0 s (with_pulls p.pulls s) u.right (cut_told job l cut old mid s u is_s)
-        b.2 went.2,
+            b.2 went.2,
       );
   pulls = λ s is.
       let p = w.pulls s (u.supply ∙ is) in
@@ -191,7 +191,7 @@ answered_behind_work job failing l cut a old mid new u w = record {
       let p = w.pulls s (u.supply ∙ is_s) in
       let units = units_are job l cut s (cut_told job l cut old mid s u is_s) in
       let went = w.along b.0 s b.1 (u.supply ∙ is_s) (settled_is job.name d.files b.0.files b.2.settles) b.2.kept
-          b.2.keeps b.2.loaded in (
+      b.2.keeps b.2.loaded in (
         went.0,
         with_pulls p.pulls s,
         went.1,
@@ -202,8 +202,8 @@ answered_behind_work job failing l cut a old mid new u w = record {
           front = λ o entry. (
             p.rest,
             ap (λ q. pulls_in (turns_of job s.held (run_units job s.held q) failing))
-            (found_is_one job.name l d b.0 o b.2 entry)
-            ∙ ap (λ us. pulls_in (turns_of job s.held us failing)) (sym units) ∙ p.turns,
+                (found_is_one job.name l d b.0 o b.2 entry)
+                ∙ ap (λ us. pulls_in (turns_of job s.held us failing)) (sym units) ∙ p.turns,
           );
         },
       );
@@ -212,7 +212,7 @@ answered_behind_work job failing l cut a old mid new u w = record {
   due = record {
     broken = where_some old.disk (λ d. (name : List ℕ) → IsBroken job.name d.files name → ToldFirst a (Damaged name))
         (λ d is name broken.
-            let b = begun job l cut old mid d u is in absurd (not_broken job.name l d b.0 name b.2 broken));
+        let b = begun job l cut old mid d u is in absurd (not_broken job.name l d b.0 name b.2 broken));
     refused = λ d s r is_d is_s refused.
         let b = begun job l cut old mid d u is_d in
         absurd (no_refusal job l cut old.supply d b.0 s r u.fits (cut_told job l cut old mid s u is_s) b.2 refused);

@@ -50,9 +50,9 @@ pub began_of : (job : List ℕ) (l : Loaded) (old mid : Option Disk) (d : Disk) 
 began_of job l old mid d found alike names is =
     let both = adds_both (EachFrom (ImagesSettleTheSame job)) (EachFrom (SettlesByName job)) old mid alike names in
     let all = adds_both (Finds job l)
-        (λ m a. EachFrom (ImagesSettleTheSame job) m a × EachFrom (SettlesByName job) m a) old mid found both in
+    (λ m a. EachFrom (ImagesSettleTheSame job) m a × EachFrom (SettlesByName job) m a) old mid found both in
     let w = went_of (λ m a. Finds job l m a × (EachFrom (ImagesSettleTheSame job) m a
-        × EachFrom (SettlesByName job) m a)) old mid d all is in
+    × EachFrom (SettlesByName job) m a)) old mid d all is in
     (w.0, w.1, begun w.0 w.2)
   where
     begun : (c : Disk) → Went (λ m a. Finds job l m a × (EachFrom (ImagesSettleTheSame job) m a

@@ -81,7 +81,7 @@ among_right job archive [] o (m ∷ ms) k name f durable among published here = 
     nothing_behind (n ∷ ns) none later = absurd none
 among_right job archive (g ∷ gs) o (m ∷ ms) k name f durable among published here = ⊎_elim
     (λ is. right_later job archive (g ∷ gs) o name f
-        (durable_readable job.name archive o m durable.0 name f published (subst (λ n. n name ≡ Some f) (sym is) here)))
+    (durable_readable job.name archive o m durable.0 name f published (subst (λ n. n name ≡ Some f) (sym is) here)))
     (λ later. among_right job archive gs (after_group job o g) ms k name f durable.1 later published here)
     (in_cases m ms k among)
 
@@ -121,10 +121,10 @@ readers_of_run job held failing m settled o before rest maps added tells order s
     one archive agrees durable readable n among name f published here = ⊎_elim
         (λ old. right_later job archive (before ++ rest) o name f (readable name f published old))
         (λ new. subst (λ q. IsRight job.name archive q name f) (sym (after_more job before rest o))
-            (right_later job archive rest (after_groups job o before) name f
-            (among_right job archive before o maps new.0 name f
-            (groups_steady job archive held settled o failing before rest maps tells agrees order durable groups begins
-            along) new.1 published new.2)))
+        (right_later job archive rest (after_groups job o before) name f
+        (among_right job archive before o maps new.0 name f
+        (groups_steady job archive held settled o failing before rest maps tells agrees order durable groups begins
+        along) new.1 published new.2)))
         (among name f published here)
 
     every : (archive : Held) → Agrees archive held → IsDurable job.name archive o settled
@@ -140,5 +140,5 @@ pub readers_of_entering : (job : Job) (held : Held) (failing : List ℕ) (m : Fi
 readers_of_entering job held failing m added reads = λ archive o agrees all readable.
     each-map (Readable job.name archive o) (Readable job.name archive (state_after job held failing o)) added
     (λ n h name f published here. right_later job archive (run_groups job held failing o) o name f
-        (h name f published here))
+    (h name f published here))
     (reads archive o all readable)

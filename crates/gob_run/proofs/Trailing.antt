@@ -1,5 +1,5 @@
 -- The maps of a run behind its work, over devices that tell: they go along the run's states, and readers meet what is right.
-use Rattle.std.proofs.Common.{◌≡◌, inl, inr, ⊎_elim, ℕ, List, [], ◌∷◌, ◌++◌}
+use Rattle.std.proofs.Common.{◌≡◌, inl, inr, ⊎_elim, ℕ, ◌≤◌, List, [], ◌∷◌, ◌++◌}
 use Rattle.std.proofs.Common.{refl, sym, ap, subst, ◌∙◌, Some, None, append_assoc, IfSome}
 use Rattle.std.specs.declared.option.Option.{Option}
 use Rattle.std.specs.List.{Contains}
@@ -40,6 +40,13 @@ use Rattle.gob_run.proofs.Entering.{run_trail}
 use Rattle.gob_run.proofs.Lasting.{lasting_along}
 use Rattle.gob_run.proofs.Readers.{published_apart}
 use Rattle.gob_run.proofs.Reading.{PublishedAmong, readers_of_run}
+
+-- what settling and loading say, whatever they answer
+pub record EntrySays (job : List ℕ) (old mid : Option Disk) (before now : ℕ) : Type 0 where
+  pub alike : Along (ImagesSettleTheSame job) old mid
+  pub names : Along (SettlesByName job) old mid
+  pub below : Along (OnlyBelow (under job [])) old mid
+  pub later : before ≤ now
 
 -- how a run came to its work
 pub record IsUnderway (job : Job) (l : Loaded) (cut : Cut) (old mid : World) : Type 0 where
@@ -133,9 +140,9 @@ unfolding entry_of
 left_of job failing l cut out d c e s t told b units verdicts w =
     let go = w.holds.gone in
     let done = subst (λ n. GroupsDone job s.held l.state c.files (run_groups job s.held failing l.state) n go.maps)
-        (sym w.stands)
-        (subst (λ g. GroupsDone job s.held l.state c.files g (last_map c.files w.added) go.maps)
-        (groups_are job l cut s failing told) go.done) in
+    (sym w.stands)
+    (subst (λ g. GroupsDone job s.held l.state c.files g (last_map c.files w.added) go.maps)
+    (groups_are job l cut s failing told) go.done) in
     let both = all_done job s.held failing c.files e.files l.state go.maps done in
     record {
       entry = entry_of job.name l d c b;

@@ -30,10 +30,20 @@ pub fn run_job<S: Source, V: Volume>(
     requires named { is_file_name job.now.name ≡ true }
     requires none { failed.old ≡ [] }
     ensures { RunAnswered (job_from job.now) failed.new result
-        (record { supply = S.supply source.old; source_faults = S.faults source.old;
-            plan_faults = S.plan_faults source.old; disk = V.disk volume.old; volume_faults = V.faults volume.old })
-        (record { supply = S.supply source.new; source_faults = S.faults source.new;
-            plan_faults = S.plan_faults source.new; disk = V.disk volume.new; volume_faults = V.faults volume.new }) }
+        (record {
+          supply = S.supply source.old;
+          source_faults = S.faults source.old;
+          plan_faults = S.plan_faults source.old;
+          disk = V.disk volume.old;
+          volume_faults = V.faults volume.old;
+        })
+        (record {
+          supply = S.supply source.new;
+          source_faults = S.faults source.new;
+          plan_faults = S.plan_faults source.new;
+          disk = V.disk volume.new;
+          volume_faults = V.faults volume.new;
+        }) }
 {
     let loaded = settle_and_load(alloc, volume, job.name.as_str())?;
     let cut = cut_over(alloc, source, &loaded, &job.limits)?;
