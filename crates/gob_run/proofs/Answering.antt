@@ -1,5 +1,6 @@
 -- A run behind its work: all that it answers follows of how it began, what was cut, and what its turns and commits did.
-use Rattle.std.proofs.Common.{◌≡◌, ◌⊎◌, inl, inr, ⊎_elim, ℕ, ◌+◌, ◌*◌, ◌<◌, ◌≤◌, List, [], refl, sym, ap, subst, ◌∙◌, Some, None}
+use Rattle.std.proofs.Common.{◌≡◌, ◌⊎◌, inl, inr, ℕ, ◌+◌, ◌*◌, ◌≤◌, List, [], refl, sym, ap, ◌∙◌}
+use Rattle.std.proofs.Common.{Some, None}
 use Rattle.std.proofs.Common.{arith, IfOk, IfErr, IfSome, length}
 use Rattle.std.specs.declared.option.Option.{Option}
 use Rattle.std.specs.declared.result.Result.TheVariants.{Ok, Err}
@@ -10,7 +11,6 @@ use Rattle.gob_device.specs.Supply.{Supply, listing_of, with_pulls}
 use Rattle.gob_device.proofs.Causes.{rose_after}
 use Rattle.gob_device.proofs.Trail.{along_then}
 use Rattle.gob_meaning.specs.Job.{Job}
-use Rattle.gob_ledger.specs.State.{State}
 use Rattle.gob_ledger.specs.Turns.{pulls_in, turns_of, verdicts_of}
 use Rattle.gob_ledger.specs.Units.{first_shrunk, new_units, range_count}
 use Rattle.gob_ledger.specs.UnitLaws.{new_count}
@@ -21,12 +21,12 @@ use Rattle.gob_cut.specs.declared.run_units.Cut.{Cut}
 use Rattle.gob_segments.specs.declared.change.Loaded.{Loaded}
 use Rattle.gob_state.specs.declared.next.Outcome.{Outcome}
 use Rattle.gob_turns.specs.Taken.{FailuresRose, given_up_in}
-use Rattle.gob_run.specs.Answers.{Answer, Completes, Due, FaultCaused, PullsAre, PullsAreOf, RunAnswered, RunIsDone}
-use Rattle.gob_run.specs.Answers.{ToldFirst, TrailIs}
+use Rattle.gob_run.specs.Answers.{Answer, FaultCaused, RunAnswered, RunIsDone}
+use Rattle.gob_run.specs.Answers.{ToldFirst}
 use Rattle.gob_run.specs.Cutting.{CutFits, parts_of}
-use Rattle.gob_run.specs.Entry.{Entry, IsBroken, Refused, broken, full, most_ranges, shrunk}
+use Rattle.gob_run.specs.Entry.{Entry, IsBroken, Refused, broken, full, shrunk}
 use Rattle.gob_run.specs.Working.{WorkIsDone, WorkStops, Worked}
-use Rattle.gob_run.specs.World.{GoesOn, WhereSupplied, WhereTold, World}
+use Rattle.gob_run.specs.World.{GoesOn, World}
 use Rattle.gob_run.specs.declared.fault.RunFault.{RunFault}
 use Rattle.gob_run.specs.declared.fault.RunFault.TheVariants.{Damaged, Shrunk, Full, SourceFault, VolumeFault, Memory}
 use Rattle.gob_run.proofs.Began.{Began, began_of, entry_of, found_is_one, not_broken, parts_same}

@@ -1,20 +1,17 @@
 -- How a run stands behind settling and loading, over a volume that tells: one state is found, and nothing is damaged.
-use Rattle.std.proofs.Common.{◌≡◌, ◌≢◌, ◌⊎◌, ℕ, ◌+◌, ◌<◌, ◌≤◌, false, List, [], ◌∷◌, ◌++◌, refl, sym, ap, subst, ◌∙◌, Some, None}
+use Rattle.std.proofs.Common.{◌≡◌, ℕ, List, ◌++◌, refl, sym, ap, subst, ◌∙◌}
+use Rattle.std.proofs.Common.{Some, None}
 use Rattle.std.proofs.Common.{option_map, IfSome}
 use Rattle.std.specs.declared.option.Option.{Option}
 use Rattle.gob_bytes.specs.Paths.{sequence_name}
 use Rattle.gob_device.specs.Disk.{AddsMaps, Along, Both, Disk, EachFrom, EachOf, Files, Went, last_map}
-use Rattle.gob_device.specs.Supply.{Supply, listing_of}
 use Rattle.gob_device.proofs.Trail.{each-map}
 use Rattle.gob_meaning.specs.Job.{Job}
 use Rattle.gob_ledger.specs.Delta.{Kept, KeepsAs, state_of}
-use Rattle.gob_ledger.specs.Marks.{Marks}
 use Rattle.gob_ledger.specs.State.{State}
-use Rattle.gob_ledger.specs.Units.{first_shrunk}
 use Rattle.gob_ledger.proofs.OneDamage.{damage_is_one}
 use Rattle.gob_ledger.proofs.OneState.{keeps_one}
-use Rattle.gob_recovery.specs.Laws.{NoTornSequence}
-use Rattle.gob_recovery.specs.Settle.{IsSettled, Settles, SettlesAs}
+use Rattle.gob_recovery.specs.Settle.{Settles, SettlesAs}
 use Rattle.gob_recovery.proofs.Damaged.{one_damage}
 use Rattle.gob_recovery.proofs.Settled.{settled_is}
 use Rattle.gob_recovery.proofs.Spelled.{to_one}
@@ -23,7 +20,7 @@ use Rattle.gob_segments.specs.Loading.{IsKept, IsLoaded}
 use Rattle.gob_segments.specs.declared.change.Loaded.{Loaded}
 use Rattle.gob_seq.specs.Maps.{ImagesSettleTheSame, SettlesByName}
 use Rattle.gob_run.specs.Cutting.{parts_of}
-use Rattle.gob_run.specs.Entry.{Entry, IsBroken, SettleAlike, SettledTo, broken, full, sequence, shrunk, state}
+use Rattle.gob_run.specs.Entry.{Entry, IsBroken, SettleAlike, SettledTo, sequence, state}
 use Rattle.gob_run.specs.Faults.{Finds}
 use Rattle.gob_run.proofs.Wents.{adds_both, went_of}
 

@@ -1,7 +1,7 @@
 -- What the commits of a run leave, from the first map to the last: no change can be lost in part.
-use Rattle.std.proofs.Common.{◌≡◌, ◌⊎◌, inl, inr, ⊎_elim, ℕ, List, [], ◌∷◌, refl, sym, ap, subst, ◌∙◌, Some, None}
+use Rattle.std.proofs.Common.{◌≡◌, ◌⊎◌, inl, inr, ℕ, List, [], ◌∷◌, refl, sym, ap, subst, ◌∙◌, Some, None}
 use Rattle.std.specs.declared.option.Option.{Option}
-use Rattle.gob_device.specs.Disk.{File, Files, clean}
+use Rattle.gob_device.specs.Disk.{Files, clean}
 use Rattle.gob_device.specs.Supply.{Held}
 use Rattle.gob_meaning.specs.Job.{Job}
 use Rattle.gob_ledger.specs.Next.{Judged}

@@ -9,7 +9,6 @@ mod Counting
 mod Trailing
 mod Answering
 mod Settled
-mod Rooms
 mod Refusing
 mod Fitting
 mod Staging

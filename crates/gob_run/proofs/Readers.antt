@@ -1,17 +1,18 @@
 -- What a reader meets who doesn't wait for recovery, while a map is settled: each published file is clean, and expected
 -- of the state.
-use Rattle.std.proofs.Common.{◌≡◌, ◌≢◌, ◌⊎◌, ⊎_elim, ℕ, true, false, cond, List, [], ◌∷◌, refl, sym, ap, ◌∙◌, Some, None, codes}
+use Rattle.std.proofs.Common.{◌≡◌, ◌≢◌, ⊎_elim, ℕ, true, false, cond, List, refl, sym, ap, ◌∙◌, Some}
+use Rattle.std.proofs.Common.{None, codes}
 use Rattle.std.proofs.Common.{option_map}
 use Rattle.std.specs.declared.option.Option.{Option}
 use Rattle.gob_bytes.specs.Paths.{begins_with, is_published, sequence_name, under}
-use Rattle.gob_device.specs.Disk.{EachOf, File, Files, clean, contents_at, contents_of}
+use Rattle.gob_device.specs.Disk.{EachOf, Files, contents_at, contents_of}
 use Rattle.gob_device.specs.Supply.{Held}
 use Rattle.gob_device.proofs.Trail.{each-map}
 use Rattle.gob_ledger.specs.Expected.{IsExpected}
 use Rattle.gob_ledger.specs.State.{State}
 use Rattle.gob_recovery.specs.Settle.{Settles}
 use Rattle.gob_history.specs.Runs.{Readable}
-use Rattle.gob_history.specs.Sound.{AllRecoverTo, IsDurable, SoundIn}
+use Rattle.gob_history.specs.Sound.{IsDurable, SoundIn}
 use Rattle.gob_history.proofs.Fronts.{published_unstaged, under_front}
 use Rattle.gob_history.proofs.Steadied.{steadied}
 use Rattle.gob_seq.specs.Maps.{SettlesByName}

@@ -1,6 +1,7 @@
--- What a reader meets who doesn't wait for recovery: each published file of each map is clean, and expected of the state
--- after the run.
-use Rattle.std.proofs.Common.{◌≡◌, ◌⊎◌, inl, inr, ⊎_elim, ℕ, true, List, [], ◌∷◌, ◌++◌, refl, sym, ap, subst, ◌∙◌, Some, None}
+-- What a reader meets who doesn't wait for recovery: each published file of each map is clean, and expected of the
+-- state after the run.
+use Rattle.std.proofs.Common.{◌≡◌, ◌⊎◌, ⊎_elim, ℕ, true, List, [], ◌∷◌, ◌++◌, refl, sym, ap, subst, ◌∙◌}
+use Rattle.std.proofs.Common.{Some}
 use Rattle.std.proofs.Common.{option_map}
 use Rattle.std.specs.declared.option.Option.{Option}
 use Rattle.std.specs.List.{Contains}
@@ -21,9 +22,10 @@ use Rattle.gob_ledger.proofs.Members.{none_in, in_cases}
 use Rattle.gob_ledger.proofs.OneState.{keeps_one}
 use Rattle.gob_recovery.specs.Settle.{Settles}
 use Rattle.gob_history.specs.Laws.{AllDurable, BeginsWith, LeftAlong}
-use Rattle.gob_history.specs.Runs.{Readable, after_group, after_groups, chain_from, done_in, group_units, group_verdicts}
+use Rattle.gob_history.specs.Runs.{Readable, after_group, after_groups, chain_from, done_in, group_units}
+use Rattle.gob_history.specs.Runs.{group_verdicts}
 use Rattle.gob_history.specs.Runs.{next_of_group, run_groups, state_after, stored_where}
-use Rattle.gob_history.specs.Sound.{AllRecoverTo, IsDurable, Stores}
+use Rattle.gob_history.specs.Sound.{IsDurable, Stores}
 use Rattle.gob_history.proofs.Left.{groups_steady}
 use Rattle.gob_history.proofs.Steadied.{steadied}
 use Rattle.gob_run.specs.Answers.{ReadersOfRun, ReadersOfSettling}
@@ -71,7 +73,8 @@ among_right : (job : Job) (archive : Held) (gs : List (List Judged)) (o : Option
     → is_published job.name name ≡ true → k name ≡ Some f → IsRight job.name archive (after_groups job o gs) name f
 among_right job archive gs o [] k name f durable among published here = none_in k among
 among_right job archive [] o (m ∷ ms) k name f durable among published here = ⊎_elim
-    (λ is. durable_readable job.name archive o m durable.0 name f published (subst (λ n. n name ≡ Some f) (sym is) here))
+    (λ is. durable_readable job.name archive o m durable.0 name f published
+    (subst (λ n. n name ≡ Some f) (sym is) here))
     (λ later. nothing_behind ms durable.1 later)
     (in_cases m ms k among)
   where

@@ -1,39 +1,35 @@
--- The maps of a run behind its work, over devices that tell: they go along the run's states, and readers meet what is right.
+-- The maps of a run behind its work, over devices that tell: they go along the run's states, and readers meet what is
+-- right.
 use Rattle.std.proofs.Common.{◌≡◌, inl, inr, ⊎_elim, ℕ, ◌≤◌, List, [], ◌∷◌, ◌++◌}
-use Rattle.std.proofs.Common.{refl, sym, ap, subst, ◌∙◌, Some, None, append_assoc, IfSome}
+use Rattle.std.proofs.Common.{sym, ap, subst, ◌∙◌, Some, append_assoc, IfSome}
 use Rattle.std.specs.declared.option.Option.{Option}
 use Rattle.std.specs.List.{Contains}
-use Rattle.gob_bytes.specs.Paths.{is_published, under}
-use Rattle.gob_bytes.specs.Tables.{IsInByteOrder, names_of}
+use Rattle.gob_bytes.specs.Paths.{under}
 use Rattle.gob_history.proofs.Fronts.{published_unstaged}
-use Rattle.gob_device.specs.Disk.{AddsMaps, Along, Disk, EachOf, File, Files, Went, last_map}
-use Rattle.gob_device.specs.Supply.{Held, Supply}
+use Rattle.gob_device.specs.Disk.{AddsMaps, Along, Disk, EachOf, Files, Went, last_map}
+use Rattle.gob_device.specs.Supply.{Supply}
 use Rattle.gob_device.proofs.Trail.{each-append, each-map, last-append}
 use Rattle.gob_meaning.specs.Job.{Job}
 use Rattle.gob_jobs.specs.Laws.{IsJob}
-use Rattle.gob_ledger.specs.Next.{Judged}
-use Rattle.gob_ledger.specs.State.{State}
 use Rattle.gob_ledger.specs.Turns.{verdicts_of}
 use Rattle.gob_ledger.specs.Units.{units_of_parts}
 use Rattle.gob_ledger.proofs.Members.{first_in}
 use Rattle.gob_recovery.specs.Commits.{OnlyBelow}
 use Rattle.gob_recovery.specs.Settle.{Settles}
-use Rattle.gob_recovery.proofs.Settled.{settled_is}
 use Rattle.gob_history.specs.Laws.{BeginsWith, StagedOver}
 use Rattle.gob_history.specs.Runs.{TrailOfRun, run_groups, run_units}
 use Rattle.gob_history.specs.Sound.{Stores}
 use Rattle.gob_commit.specs.Done.{GroupsDone, PublishedFrom}
-use Rattle.gob_commit.specs.Going.{GoneAlong, GoneToEnd}
 use Rattle.gob_commit.proofs.Doing.{all_done}
 use Rattle.gob_cut.specs.declared.run_units.Cut.{Cut}
 use Rattle.gob_segments.specs.declared.change.Loaded.{Loaded}
 use Rattle.gob_seq.specs.Maps.{ImagesSettleTheSame, SettlesByName}
 use Rattle.gob_state.specs.Committed.{verdicts_in}
 use Rattle.gob_state.specs.declared.next.Outcome.{Outcome}
-use Rattle.gob_run.specs.Answers.{ReadersOfRun, RunIsLeft, TrailIs}
+use Rattle.gob_run.specs.Answers.{RunIsLeft, TrailIs}
 use Rattle.gob_run.specs.Cutting.{CutFits, CutIsTold, parts_of}
 use Rattle.gob_run.specs.Faults.{Finds}
-use Rattle.gob_run.specs.Working.{WentAlong, WentToEnd, WorkIsTold, groups_over}
+use Rattle.gob_run.specs.Working.{WentAlong, WentToEnd, groups_over}
 use Rattle.gob_run.specs.World.{GoesOn, World}
 use Rattle.gob_run.proofs.Began.{Began, entry_of, parts_same}
 use Rattle.gob_run.proofs.Entering.{run_trail}
@@ -100,8 +96,8 @@ staged_reads job m settled maps n among over name f published here =
 -- ---- the trail
 
 -- some groups were committed, one after the other
-pub trail_of : (job : Job) (failing : List ℕ) (l : Loaded) (cut : Cut) (d c e : Disk) (s t : Supply) → IsJob job.name job
-    → TellsCut job l cut s → Began job.name l d c → Went (WentAlong job s.held l.state cut.units failing) c e
+pub trail_of : (job : Job) (failing : List ℕ) (l : Loaded) (cut : Cut) (d c e : Disk) (s t : Supply)
+    → IsJob job.name job → TellsCut job l cut s → Began job.name l d c → Went (WentAlong job s.held l.state cut.units failing) c e
     → TrailIs job failing d s e t
 trail_of job failing l cut d c e s t right told b w =
     let go = w.holds.gone in

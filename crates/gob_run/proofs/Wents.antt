@@ -1,5 +1,5 @@
 -- What one call, and what two calls of one stretch, added to a volume that tells.
-use Rattle.std.proofs.Common.{◌≡◌, List, ◌++◌, refl, sym, subst, ◌∙◌, Some, None}
+use Rattle.std.proofs.Common.{◌≡◌, List, refl, sym, subst, ◌∙◌, Some, None}
 use Rattle.std.specs.declared.option.Option.{Option}
 use Rattle.std.proofs.lemmas.List.{append_cancel_left}
 use Rattle.gob_device.specs.Disk.{AddsMaps, Both, Disk, Files, Went}

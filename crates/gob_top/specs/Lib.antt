@@ -1,8 +1,11 @@
 pub mod World
 pub mod Answers
-pub mod Checks
+pub mod Jobs
 pub mod Runs
-pub mod Plain
-pub mod Inputs
-pub mod Cuts
+pub mod Checks
+pub mod Settlings
+pub mod Commands
+pub mod Faults
+pub mod Found
 pub mod Lines
+pub mod Made

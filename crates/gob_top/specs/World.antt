@@ -1,22 +1,6 @@
--- The devices of a call, as it found them and as it left them.
-use Rattle.std.specs.Prelude.{◌≡◌, ℕ, ◌≤◌}
-use Rattle.std.specs.declared.option.Option.{Option}
-use Rattle.std.specs.declared.option.Option.TheVariants.{Some}
-use Rattle.gob_device.specs.Disk.{Disk}
-use Rattle.gob_device.specs.Supply.{Supply}
-
-pub record World : Type 0 where
-  pub supply : Option Supply
-  pub source_faults : ℕ
-  pub plan_faults : ℕ
-  pub disk : Option Disk
-  pub volume_faults : ℕ
-
--- no count of faults has fallen
-pub record GoesOn (old new : World) : Type 0 where
-  pub source : old.source_faults ≤ new.source_faults
-  pub planned : old.plan_faults ≤ new.plan_faults
-  pub volume : old.volume_faults ≤ new.volume_faults
+-- The devices of a call that leaves them alone.
+use Rattle.std.specs.Prelude.{◌≡◌}
+use Rattle.gob_run.specs.World.{GoesOn, World}
 
 -- no call was made of the source
 pub record NoSourceCall (old new : World) : Type 0 where
@@ -24,7 +8,8 @@ pub record NoSourceCall (old new : World) : Type 0 where
   pub faults : new.source_faults ≡ old.source_faults
   pub planned : new.plan_faults ≡ old.plan_faults
 
--- where both devices tell, they tell afterwards too, and this holds of what they tell
-abbrev pub WhereTold : (Disk → Supply → Disk → Supply → Type 0) → World → World → Type 0
-WhereTold P old new = (d : Disk) (s : Supply) → old.disk ≡ Some d → old.supply ≡ Some s
-    → (e : Disk) × (t : Supply) × (new.disk ≡ Some e) × (new.supply ≡ Some t) × P d s e t
+-- nothing was changed, and the source wasn't asked
+pub record StaysPut (old new : World) : Type 0 where
+  pub disk : new.disk ≡ old.disk
+  pub source : NoSourceCall old new
+  pub goes_on : GoesOn old new

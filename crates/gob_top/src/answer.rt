@@ -1,66 +1,63 @@
-//! What a command answers, before it is written.
-ghost use Rattle.std.specs.Prelude.{◌≡◌};
-ghost use Rattle.gob_top.specs.Answers.{refusal_status, refusal_text};
+//! What a command answers, and how that is delivered.
+ghost use Rattle.std.specs.Prelude.{◌≡◌, ◌≤◌, IfOk};
+ghost use Rattle.gob_report.specs.Refusals.{told_as};
+ghost use Rattle.gob_top.specs.Answers.{Delivered, Tells, refused};
+ghost use Rattle.gob_top.specs.Made.{told_of, told_when_done};
 
-use gob_plan::Bytes;
+use crate::stopped::Stopped;
+use gob_io::Sink;
+use gob_plan::{Bytes, Failed, NoMemory};
+use gob_report::{Refusal, memory_text, refusal_text};
+use std::alloc::Global;
 
-/// A text and the status that goes with it: 0 where all units are committed or none was to do.
+/// A text, and the status that goes with it.
 #[derive(Drop)]
 pub struct Report {
     pub status: u8,
     pub text: Bytes,
 }
 
-/// Why a command did nothing, or stopped.
-#[derive(Clone, Copy, Debug, PartialEq, Eq)]
-pub enum Refusal {
-    /// The words are no command line.
-    Usage,
-    /// The job file isn't there.
-    NoJob,
-    /// The job file has other bytes than those that can be run today.
-    NotBuilt,
-    /// The job has a state, and going on from one isn't built yet.
-    NotBuiltState,
-    /// A unit's bytes are no plain lines: a short pull, a carriage return before a line feed, or no UTF-8.
-    NotBuiltInput,
-    /// The source failed.
-    SourceFault,
-    /// The volume failed.
-    VolumeFault,
-    /// No memory is left; what was committed stands.
-    Memory,
+/// The status where no memory is left.
+const NO_MEMORY: u8 = 8;
+
+/// The status where the text couldn't be written whole.
+const NOT_WRITTEN: u8 = 7;
+
+/// What is told of a refusal.
+fn refuse(alloc: Global, refusal: &Refusal) -> Result<Report, NoMemory>
+    ensures { IfOk result (λ report. (report.status, report.text) ≡ refused (told_as refusal.now)) }
+{
+    let text = refusal_text(alloc, refusal)?;
+    Ok(Report {
+        status: refusal.status(),
+        text,
+    })
 }
 
-impl Refusal {
-    /// The exit status.
-    pub fn status(self) -> u8
-        ensures { result ≡ refusal_status self }
-    {
-        match self {
-            Refusal::Usage => 2,
-            Refusal::NoJob | Refusal::NotBuilt | Refusal::NotBuiltState | Refusal::NotBuiltInput =>
-                3,
-            Refusal::SourceFault => 5,
-            Refusal::VolumeFault => 6,
-            Refusal::Memory => 8,
-        }
+/// What is told of a command that was done, or was refused or stopped.
+pub(crate) fn answer(alloc: Global, done: Result<Report, Stopped>) -> Result<Report, NoMemory>
+    ensures { Tells (told_when_done done) (told_of result) }
+{
+    match done {
+        Ok(report) => Ok(report),
+        Err(stopped) => refuse(alloc, &stopped.refusal),
     }
+}
 
-    /// The text, which takes no memory.
-    pub fn text(self) -> &'static [u8]
-        ensures { result.now ≡ refusal_text self }
-    {
-        match self {
-            Refusal::Usage =>
-                b"usage: run JOB, recover JOB, report JOB, check JOB, drill N, drill N stops\nstatus 2\n",
-            Refusal::NoJob => b"refused no-job\nstatus 3\n",
-            Refusal::NotBuilt => b"refused not-built\nstatus 3\n",
-            Refusal::NotBuiltState => b"refused not-built state\nstatus 3\n",
-            Refusal::NotBuiltInput => b"refused not-built input\nstatus 3\n",
-            Refusal::SourceFault => b"refused source-fault\nstatus 5\n",
-            Refusal::VolumeFault => b"refused volume-fault\nstatus 6\n",
-            Refusal::Memory => b"refused memory\nstatus 8\n",
-        }
+/// Writes what is told by one call of the sink. A write that fails takes the place of every status but that of want of
+/// memory.
+pub(crate) fn deliver<O: Sink>(answer: &Result<Report, NoMemory>, out: &mut O) -> u8
+    ensures delivered { Delivered result (told_of answer.now) (O.output out.old) (O.output out.new)
+        (O.faults out.old) (O.faults out.new) }
+    ensures goes_on { O.faults out.old ≤ O.faults out.new }
+{
+    let (status, text) = match answer {
+        Ok(report) => (report.status, report.text.as_slice()),
+        Err(NoMemory) => (NO_MEMORY, memory_text()),
+    };
+    match out.write(text) {
+        Ok(()) => status,
+        Err(Failed) if status == NO_MEMORY => NO_MEMORY,
+        Err(Failed) => NOT_WRITTEN,
     }
 }

@@ -1,26 +1,40 @@
 //! The words of a command line.
-ghost use Rattle.std.specs.Prelude.{◌≡◌, map, option_map, string_bytes};
-ghost use Rattle.gob_top.specs.Answers as answers;
-ghost use Rattle.gob_top.specs.Checks as checks;
+ghost use Rattle.std.specs.Prelude.{◌∷◌, [], map, string_bytes};
+ghost use Rattle.gob_top.specs.Lines.{IsCommand};
 
 use gob_text::is_job_name;
 
-/// The job of `run JOB`, or None where the words are no command line.
-pub fn job_to_run(words: &[String]) -> Option<&str>
-    ensures { option_map (λ job. job.now) result ≡ answers.job_to_run (map string_bytes words.now) }
+/// What a command line asks for, of the job with this name.
+#[derive(Clone, Copy)]
+pub(crate) enum Command<'a> {
+    Run(&'a str),
+    Recover(&'a str),
+    Report(&'a str),
+    Check(&'a str),
+}
+
+/// The command of these words, or None where they are no command line.
+pub(crate) fn command_of(words: &[String]) -> Option<Command<'_>>
+    ensures { IsCommand (map string_bytes words.now) result }
 {
     match words {
-        [word, job] if word.as_str() == "run" && is_job_name(job.as_str()) => Some(job.as_str()),
+        [verb, job] => command_with(verb.as_str(), job.as_str()),
         _ => None,
     }
 }
 
-/// The job of `check JOB`, or None where the words are another command line or none.
-pub fn job_to_check(words: &[String]) -> Option<&str>
-    ensures { option_map (λ job. job.now) result ≡ checks.job_to_check (map string_bytes words.now) }
+// The command of a verb and a job's name.
+fn command_with<'a>(verb: &str, job: &'a str) -> Option<Command<'a>>
+    ensures { IsCommand (verb.now ∷ job.now ∷ []) result }
 {
-    match words {
-        [word, job] if word.as_str() == "check" && is_job_name(job.as_str()) => Some(job.as_str()),
+    if !is_job_name(job) {
+        return None;
+    }
+    match verb {
+        "run" => Some(Command::Run(job)),
+        "recover" => Some(Command::Recover(job)),
+        "report" => Some(Command::Report(job)),
+        "check" => Some(Command::Check(job)),
         _ => None,
     }
 }

@@ -3,16 +3,13 @@
 
 mod answer;
 mod check;
-mod check_text;
 mod command;
-mod cut;
-mod input;
-mod lines;
-mod names;
-mod publish;
+mod job;
+mod recover;
+mod report;
 mod run;
-mod texts;
+mod stopped;
 mod top;
 
-pub use answer::{Refusal, Report};
+pub use answer::Report;
 pub use top::gobblin;

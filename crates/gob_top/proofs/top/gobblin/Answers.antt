@@ -1,10 +1,12 @@
-use Rattle.std.proofs.Common.{map, sym, string_bytes}
-use Rattle.gob_top.proofs.Called.{check_called, run_called}
+use Rattle.std.proofs.Common.{map, string_bytes}
+use Rattle.gob_top.specs.Made.{told_of, told_when_done}
+use Rattle.gob_top.proofs.Telling.{answered_more}
 use Rattle.gob_top.proofs.top.gobblin.Goals as goal
 
-pub run-answer-requires : goal.run-answer-requires
-run-answer-requires g c = record { named = run_called (map string_bytes c.args.words.now) c.in-Some.job.now (sym c.in-Some.ensures) }
-
-pub check-requires : goal.check-requires
-check-requires g c =
-    record { named = check_called (map string_bytes c.args.words.now) c.in-Some-job_to_check.job.now (sym c.in-Some-job_to_check.ensures) }
+pub returns-clause-answered : goal.returns-clause-answered
+returns-clause-answered g c = (
+  told_of c.answer-told.result,
+  answered_more (map string_bytes c.args.words.now) _ _ (told_when_done c.do_command-done.result) _
+      c.do_command-done.ensures c.answer-told.ensures,
+  c.deliver.ensures.delivered,
+)

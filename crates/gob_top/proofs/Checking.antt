@@ -1,0 +1,59 @@
+-- What `check` tells.
+use Rattle.std.proofs.Common.{◌≡◌, inl, ℕ, ◌≤◌, List, refl, ap, ◌∙◌, arith}
+use Rattle.std.specs.declared.option.Option.{Option}
+use Rattle.std.specs.declared.result.Result.TheVariants.{Err}
+use Rattle.gob_device.specs.Disk.{Disk}
+use Rattle.gob_texts.specs.Refusals as texts
+use Rattle.gob_run.specs.World.{World}
+use Rattle.gob_top.specs.Answers.{Told, refused}
+use Rattle.gob_top.specs.Checks.{CheckAnswered, check_told, checked, failure, starved}
+use Rattle.gob_top.specs.Found.{NotFound}
+use Rattle.gob_top.specs.Found as found
+use Rattle.gob_top.specs.Jobs.{FileGives, Read}
+use Rattle.gob_top.specs.World.{StaysPut}
+
+-- the world with this volume
+abbrev pub filed : World → Option Disk → ℕ → World
+filed w disk faults = record w { disk = disk; volume_faults = faults }
+
+pub same_world : (w : World) (old new : Option Disk) (before now : ℕ) → new ≡ old → now ≡ before
+    → filed w new now ≡ filed w old before
+same_world w old new before now disk faults = λ i. filed w (disk i) (faults i)
+
+pub stays_put : (w : World) (old new : Option Disk) (before now : ℕ) → new ≡ old → before ≤ now
+    → StaysPut (filed w old before) (filed w new now)
+stays_put w old new before now disk later = record {
+  disk = disk;
+  source = record { supply = refl; faults = refl; planned = refl };
+  goes_on = record { source = omega arith; planned = omega arith; volume = later };
+}
+
+-- the file gives no job, or wasn't read
+pub not_checked : (job : List ℕ) (w : World) (old new : Option Disk) (before now : ℕ) (why : texts.Refusal) (t : Told)
+    → NotFound job old before now why → new ≡ old → before ≤ now → t ≡ refused why
+    → CheckAnswered job (filed w old before) (filed w new now) t
+not_checked job w old new before now why t (found.given gives unfailed) disk later tells = record {
+  caused = checked (Err why) gives (inl tells) (same_world w old new before now disk unfailed);
+  stays = stays_put w old new before now disk later;
+}
+not_checked job w old new before now why t (found.failed is rose) disk later tells = record {
+  caused = failure (inl (tells ∙ ap refused is)) rose;
+  stays = stays_put w old new before now disk later;
+}
+not_checked job w old new before now why t (found.starved is) disk later tells = record {
+  caused = starved (tells ∙ ap refused is);
+  stays = stays_put w old new before now disk later;
+}
+
+pub check_starved : (job : List ℕ) (w : World) (old new : Option Disk) (before now : ℕ) (t : Told) → new ≡ old
+    → before ≤ now → t ≡ refused texts.memory → CheckAnswered job (filed w old before) (filed w new now) t
+check_starved job w old new before now t disk later tells =
+    record { caused = starved tells; stays = stays_put w old new before now disk later }
+
+pub job_checked : (job : List ℕ) (w : World) (old new : Option Disk) (before now : ℕ) (r : Read) (t : Told)
+    → FileGives job old r → t ≡ check_told job r → new ≡ old → now ≡ before → before ≤ now
+    → CheckAnswered job (filed w old before) (filed w new now) t
+job_checked job w old new before now r t gives tells disk unfailed later = record {
+  caused = checked r gives (inl tells) (same_world w old new before now disk unfailed);
+  stays = stays_put w old new before now disk later;
+}

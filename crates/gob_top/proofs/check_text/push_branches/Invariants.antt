@@ -1,7 +1,0 @@
-use Rattle.std.proofs.Common.{◌≡◌, ◌++◌, drop}
-use Rattle.std.specs.List.{enumerate_from, flat_map}
-use Rattle.gob_texts.specs.Commands.{format_line}
-use Rattle.gob_top.proofs.check_text.push_branches.Given as goal
-
-abbrev pub invariant-loop-i : goal.invariant-loop-i
-invariant-loop-i l = l.into.items ++ flat_map (format_line l.shared) (enumerate_from l.i (drop l.i l.branches)) ≡ l.initial.into.items ++ flat_map (format_line l.shared) (enumerate_from 0 l.branches)

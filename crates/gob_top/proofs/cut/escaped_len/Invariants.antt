@@ -1,6 +1,0 @@
-use Rattle.std.proofs.Common.{◌≡◌, length, min, take, ◌-◌, ◌^◌}
-use Rattle.gob_bytes.specs.Escapes.{escaped}
-use Rattle.gob_top.proofs.cut.escaped_len.Given as goal
-
-abbrev pub invariant-loop-byte : goal.invariant-loop-byte
-invariant-loop-byte l = l.len ≡ min (length (escaped (take l.byte-index l.name))) (2 ^ 64 - 1)

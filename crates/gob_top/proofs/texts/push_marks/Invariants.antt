@@ -1,8 +1,0 @@
-use Rattle.std.proofs.Common.{◌≡◌, ◌++◌, drop}
-use Rattle.std.specs.List.{flat_map}
-use Rattle.gob_texts.specs.Report.{mark_line}
-use Rattle.gob_top.specs.Plain.{done_to}
-use Rattle.gob_top.proofs.texts.push_marks.Given as goal
-
-abbrev pub invariant-loop-input : goal.invariant-loop-input
-invariant-loop-input l = l.into.items ++ flat_map (λ i. mark_line (i.unit.part, done_to i.unit.hi)) (drop l.input-index l.inputs) ≡ l.initial.into.items ++ flat_map (λ i. mark_line (i.unit.part, done_to i.unit.hi)) l.inputs
