@@ -1,6 +1,6 @@
 # make demo                       runs gobblin on a copy of examples/ and shows its report and what it published
 # make build                      proves the program and what it stands on, and builds it
-# make test                       the gate: every proof, wrong body, test and program, then the cases of the command line
+# make test                       the gate: every proof, wrong body, test and program, then the command line
 # make bench MEGABYTES=100        measures the proved program beside cp and awk, on so much data that it makes
 # make install PREFIX=/usr/local  copies the proved program to PREFIX/bin; DESTDIR goes in front
 #
