@@ -1,14 +1,16 @@
 # make demo                       runs gobblin on a copy of examples/ and shows its report and what it published
 # make build                      proves the program and what it stands on, and builds it
-# make test                       the gate: every proof, wrong body, test and program, then the cases of the command line
+# make test                       the gate: every proof, wrong body, test and program, then the command line
+# make bench MEGABYTES=100        measures the proved program beside cp and awk, on so much data that it makes
 # make install PREFIX=/usr/local  copies the proved program to PREFIX/bin; DESTDIR goes in front
 #
 # build and test, and a demo with no program built, need the kit's rt.
 
 PREFIX = /usr/local
 PROGRAM = crates/gobblin/out/gobblin
+MEGABYTES = 100
 
-.PHONY: demo build test install
+.PHONY: demo build test bench install
 
 demo:
 	@examples/demo
@@ -21,6 +23,9 @@ build:
 
 test:
 	.ci/run
+
+bench:
+	@tests/bench $(MEGABYTES)
 
 install:
 	@test -x $(PROGRAM) || { echo "there is no $(PROGRAM): make build first" >&2; exit 1; }
