@@ -1,182 +1,381 @@
-//! Runs that are refused, and words that are no command.
+//! Refusals in their order, and what each leaves. Where one is due, what would be refused later is wrong as well.
 
-use crate::cases::{Case, Fails, JOB, JOB_TEXT, NO_FAILS, PLAIN, STATE, check};
+use crate::calls::{Case, Fails, NO_FAILS, check};
+use crate::files::File;
+use crate::plain::{BEFORE_POLICIES, BEHIND_POLICIES, FIRST_RUN, LINES, NO_POLICIES};
+use std::test::Fail;
 
-/// The source must not be asked for its partitions.
-const UNASKED: Fails = Fails {
+const JOB: File = ("jobs/j1.pull", &[LINES]);
+
+const PUBLISHED: File = (
+    "j1/out/0/a.log@00000000000000000000-00000000000000000004.txt",
+    &["x\ny\n"],
+);
+
+const STAGED: File = (
+    "j1/stage/0-0/out/0/a.log@00000000000000000000-00000000000000000004.txt",
+    &["x\ny\n"],
+);
+
+/// What a run left that was stopped.
+const LEFT_OVER: File = ("j1/stage/9-0/out/0/a", &["left"]);
+
+/// A state of the first version, as a run would have it after two lines, but for its last line.
+const FIRST_LINES: &str = "gobblin-state 1\nrun 1\n";
+
+const LAST_LINES: &str = "totals 2 0 2 0\nbranch 0 2 0 0\npartition a.log 4\ndone 0 4\n";
+
+const WHOLE_STATE: &[&str] = &[
+    FIRST_LINES,
+    BEFORE_POLICIES,
+    NO_POLICIES,
+    BEHIND_POLICIES,
+    LAST_LINES,
+    "end\n",
+];
+
+const STATE: File = ("j1/state", WHOLE_STATE);
+
+const STAGED_STATE: File = ("j1/stage/state", WHOLE_STATE);
+
+const DAMAGED_STATE: File = (
+    "j1/state",
+    &[
+        FIRST_LINES,
+        BEFORE_POLICIES,
+        NO_POLICIES,
+        BEHIND_POLICIES,
+        LAST_LINES,
+        "enx\n",
+    ],
+);
+
+/// It tells two steps and has none.
+const DAMAGED_SEQUENCE: File = ("j1/seq", &["gobblin-sequence 1\nend 2\n"]);
+
+const FILE_MOVE: &str = "gobblin-sequence 1
+move j1/stage/0-0/out/0/a.log@00000000000000000000-00000000000000000004.txt ";
+
+const FILE_MOVED: &str = "j1/out/0/a.log@00000000000000000000-00000000000000000004.txt\n";
+
+/// It moves the published file.
+const SEQUENCE: File = ("j1/seq", &[FILE_MOVE, FILE_MOVED, "end 1\n"]);
+
+/// It moves the published file and the state.
+const FULL_SEQUENCE: File = (
+    "j1/seq",
+    &[
+        FILE_MOVE,
+        FILE_MOVED,
+        "move j1/stage/state j1/state\nend 2\n",
+    ],
+);
+
+/// The source must not be asked for its partitions: it would fail.
+const UNASKED: Fails<'static> = Fails {
     lists: &[0],
     ..NO_FAILS
 };
 
-/// Nothing is pulled, and the job file stands alone.
-const REFUSED: Case = Case {
-    status: 3,
-    pulls: &[],
-    left: &[JOB],
-    ..PLAIN
-};
+/// A job file that is refused twice over.
+const BAD_JOB: File = ("jobs/j1.pull", &["writer.format=lines\nx=\\u00zz\n"]);
 
-const NO_COMMANDS: [&[&str]; 12] = [
-    &[],
-    &["run"],
-    &["j1"],
-    &["run", "j1", "j1"],
-    &["run", ""],
-    &["run", "jobs"],
-    &["run", ".j1"],
-    &["run", "a/b"],
-    &["run", "j 1"],
-    &["Run", "j1"],
-    &["", "run", "j1"],
-    &["recover", "j1"],
-];
+const UNSOUND: &[File] = &[DAMAGED_SEQUENCE, LEFT_OVER, DAMAGED_STATE, BAD_JOB];
 
-/// Words that are no command get the usage line, and neither device is changed.
-#[test]
-fn words_that_are_no_command(rt: HostRuntime) {
-    for words in NO_COMMANDS {
-        let case = Case {
-            words,
-            fails: UNASKED,
-            status: 2,
-            text: "usage: run JOB, recover JOB, report JOB, check JOB, drill N, drill N stops
+const USAGE: Case = Case {
+    words: &["run", "j1", "j1"],
+    parts: &[("a.log", "x\ny\n")],
+    files: UNSOUND,
+    fails: UNASKED,
+    status: 2,
+    text: &[
+        "usage: run JOB, recover JOB, report JOB, check JOB, drill N, drill N stops
 status 2
 ",
-            ..REFUSED
-        };
-        check(&rt, rt.alloc(), &case);
-    }
-}
+    ],
+    pulls: &[],
+    left: UNSOUND,
+};
 
-const WITHOUT_JOB: [&[(&str, &str)]; 4] = [
-    &[],
-    &[("jobs/j11.pull", JOB_TEXT)],
-    &[("j1.pull", JOB_TEXT), ("jobs/j1", JOB_TEXT)],
-    &[STATE],
+const WITHOUT_JOB: &[File] = &[DAMAGED_SEQUENCE, LEFT_OVER, DAMAGED_STATE];
+
+const NO_JOB: Case = Case {
+    words: &["run", "j1"],
+    files: WITHOUT_JOB,
+    status: 3,
+    text: &["refused no-job\nstatus 3\n"],
+    left: WITHOUT_JOB,
+    ..USAGE
+};
+
+/// The text is read before its keys.
+const BAD_ESCAPE: Case = Case {
+    files: UNSOUND,
+    text: &["refused bad-escape 2\nstatus 3\n"],
+    left: UNSOUND,
+    ..NO_JOB
+};
+
+const BAD_KEY_JOB: File = (
+    "jobs/j1.pull",
+    &["writer.format=lines\nsource.class=jdbc\n"],
+);
+
+const WITH_BAD_KEY: &[File] = &[DAMAGED_SEQUENCE, LEFT_OVER, DAMAGED_STATE, BAD_KEY_JOB];
+
+/// The class is read before the format, which is missing.
+const BAD_KEY: Case = Case {
+    files: WITH_BAD_KEY,
+    text: &["refused bad-value source.class\nstatus 3\n"],
+    left: WITH_BAD_KEY,
+    ..NO_JOB
+};
+
+const SEQUENCE_IS_DAMAGED: &[File] = &[DAMAGED_SEQUENCE, LEFT_OVER, DAMAGED_STATE, JOB];
+
+const BAD_SEQUENCE: Case = Case {
+    files: SEQUENCE_IS_DAMAGED,
+    status: 4,
+    text: &["refused damaged j1/seq\nstatus 4\n"],
+    left: SEQUENCE_IS_DAMAGED,
+    ..NO_JOB
+};
+
+const SOURCE_IS_LOST: &[File] = &[SEQUENCE, LEFT_OVER, DAMAGED_STATE, JOB];
+
+/// Neither name of the move is there.
+const LOST: Case = Case {
+    files: SOURCE_IS_LOST,
+    text: &[
+        "refused damaged j1/stage/0-0/out/0/a.log@00000000000000000000-00000000000000000004.txt
+status 4
+",
+    ],
+    left: SOURCE_IS_LOST,
+    ..BAD_SEQUENCE
+};
+
+/// The sequence is done first.
+const BAD_STATE: Case = Case {
+    files: &[SEQUENCE, STAGED, LEFT_OVER, DAMAGED_STATE, JOB],
+    text: &["refused damaged j1/state\nstatus 4\n"],
+    left: &[PUBLISHED, DAMAGED_STATE, JOB],
+    ..BAD_SEQUENCE
+};
+
+const BASE: File = (
+    "j1/state",
+    &[
+        FIRST_RUN,
+        BEFORE_POLICIES,
+        NO_POLICIES,
+        BEHIND_POLICIES,
+        "totals 1 0 1 0\nbranch 0 1 0 0\npartition a.log 2\ndone 0 2 0\nend\n",
+    ],
+);
+
+const DAMAGED_CHANGE: File = (
+    "j1/delta/00000000000000000002",
+    &[
+        "gobblin-delta 2
+run 2
+pipelines 0
+totals 2 0 2 0
+branch 0 2 0 0
+partition a.log 4
+done 2 4 0
+enx
+",
+    ],
+);
+
+const BAD_CHANGE: Case = Case {
+    files: &[DAMAGED_CHANGE, LEFT_OVER, BASE, JOB],
+    text: &["refused damaged j1/delta/00000000000000000002\nstatus 4\n"],
+    left: &[DAMAGED_CHANGE, BASE, JOB],
+    ..BAD_SEQUENCE
+};
+
+const STOPPED: &[File] = &[FULL_SEQUENCE, STAGED, LEFT_OVER, STAGED_STATE, JOB];
+
+const SETTLED: &[File] = &[PUBLISHED, STATE, JOB];
+
+/// The state that the sequence stores has taken four bytes.
+const SHRUNK: Case = Case {
+    parts: &[("a.log", "x\n")],
+    files: STOPPED,
+    fails: NO_FAILS,
+    text: &["refused shrunk a.log 4 2\nstatus 4\n"],
+    left: SETTLED,
+    ..BAD_SEQUENCE
+};
+
+const NO_LIST: Case = Case {
+    parts: &[("a.log", "x\ny\nz\n")],
+    fails: UNASKED,
+    status: 5,
+    text: &["refused source-fault\nstatus 5\n"],
+    ..SHRUNK
+};
+
+const NO_LOOK: Case = Case {
+    fails: Fails {
+        looks: &[0],
+        ..NO_FAILS
+    },
+    ..NO_LIST
+};
+
+/// The job's file is the first that is asked for.
+const NO_READ: Case = Case {
+    fails: Fails {
+        volume: &[0],
+        ..NO_FAILS
+    },
+    status: 6,
+    text: &["refused volume-fault\nstatus 6\n"],
+    left: STOPPED,
+    ..NO_LIST
+};
+
+const RUNS: [Case; 11] = [
+    USAGE,
+    NO_JOB,
+    BAD_ESCAPE,
+    BAD_KEY,
+    BAD_SEQUENCE,
+    LOST,
+    BAD_STATE,
+    BAD_CHANGE,
+    SHRUNK,
+    NO_LIST,
+    NO_LOOK,
 ];
 
-/// Without the job's own file there is no run, whatever else is there.
+/// Of several causes the first is told, and each leaves the files as they were or as settling leaves them.
 #[test]
-fn no_job_file(rt: HostRuntime) {
-    for files in WITHOUT_JOB {
-        let case = Case {
-            files,
-            fails: UNASKED,
-            text: "refused no-job\nstatus 3\n",
-            left: files,
-            ..REFUSED
-        };
-        check(&rt, rt.alloc(), &case);
+fn a_run_is_refused_for_its_first_cause(rt: HostRuntime) -> Result<(), Fail> {
+    for case in &RUNS {
+        check(&rt, rt.alloc(), case)?;
     }
+    check(&rt, rt.alloc(), &NO_READ)?;
+    Ok(())
 }
 
-const OTHER_JOBS: [&[(&str, &str)]; 7] = [
-    &[("jobs/j1.pull", "")],
-    &[("jobs/j1.pull", "source.format=lines\nwriter.format=lines")],
-    &[(
-        "jobs/j1.pull",
-        "source.format=lines\nwriter.format=lines\n\n",
-    )],
-    &[("jobs/j1.pull", "writer.format=lines\nsource.format=lines\n")],
-    &[(
-        "jobs/j1.pull",
-        "source.format=lines\r\nwriter.format=lines\r\n",
-    )],
-    &[(
-        "jobs/j1.pull",
-        "source.format = lines\nwriter.format=lines\n",
-    )],
-    &[STATE, ("jobs/j1.pull", "source.format=csv\n")],
+// The other commands ask neither for the source nor, but for a check, for the job's file.
+
+const RECOVER: &[&str] = &["recover", "j1"];
+
+const REPORT: &[&str] = &["report", "j1"];
+
+const CHECK: &[&str] = &["check", "j1"];
+
+const RECOVER_BAD_SEQUENCE: Case = Case {
+    words: RECOVER,
+    files: UNSOUND,
+    left: UNSOUND,
+    ..BAD_SEQUENCE
+};
+
+/// A recovery reads no state.
+const RECOVER_BAD_STATE: Case = Case {
+    words: RECOVER,
+    files: &[LEFT_OVER, DAMAGED_STATE, BAD_JOB],
+    status: 0,
+    text: &["recovered j1 sequence none\nstatus 0\n"],
+    left: &[DAMAGED_STATE, BAD_JOB],
+    ..BAD_SEQUENCE
+};
+
+const RECOVER_STOPPED: Case = Case {
+    files: STOPPED,
+    text: &["recovered j1 sequence open\nstatus 0\n"],
+    left: SETTLED,
+    ..RECOVER_BAD_STATE
+};
+
+const REPORT_BAD_STATE: Case = Case {
+    words: REPORT,
+    status: 4,
+    text: &["refused damaged j1/state\nstatus 4\n"],
+    ..RECOVER_BAD_STATE
+};
+
+const REPORT_STOPPED: Case = Case {
+    words: REPORT,
+    text: &[
+        "job j1
+mark a.log 4 4
+pipeline 0 ranges 1
+total records 2 bad 0 rows 2 unrouted 0
+total branch 0 written 2 errors 0 optional 0
+runs 1
+status 0
+",
+    ],
+    ..RECOVER_STOPPED
+};
+
+const REPORT_NOTHING: Case = Case {
+    words: REPORT,
+    files: &[LEFT_OVER],
+    text: &[
+        "job j1
+total records 0 bad 0 rows 0 unrouted 0
+runs 0
+status 0
+",
+    ],
+    left: &[],
+    ..RECOVER_STOPPED
+};
+
+/// A check settles nothing.
+const CHECK_UNSETTLED: Case = Case {
+    words: CHECK,
+    status: 0,
+    text: &["job j1 ok\nbranch 0 lines line:text\nstatus 0\n"],
+    ..BAD_SEQUENCE
+};
+
+const CHECK_BAD_KEY: Case = Case {
+    words: CHECK,
+    ..BAD_KEY
+};
+
+const RECOVER_NO_READ: Case = Case {
+    words: RECOVER,
+    ..NO_READ
+};
+
+const REPORT_NO_READ: Case = Case {
+    words: REPORT,
+    ..NO_READ
+};
+
+const CHECK_NO_READ: Case = Case {
+    words: CHECK,
+    ..NO_READ
+};
+
+const OTHERS: [Case; 11] = [
+    RECOVER_BAD_SEQUENCE,
+    RECOVER_BAD_STATE,
+    RECOVER_STOPPED,
+    REPORT_BAD_STATE,
+    REPORT_STOPPED,
+    REPORT_NOTHING,
+    CHECK_UNSETTLED,
+    CHECK_BAD_KEY,
+    RECOVER_NO_READ,
+    REPORT_NO_READ,
+    CHECK_NO_READ,
 ];
 
-/// A job file with any other bytes is refused, also where the job has a state.
 #[test]
-fn another_job_file(rt: HostRuntime) {
-    for files in OTHER_JOBS {
-        let case = Case {
-            files,
-            fails: UNASKED,
-            text: "refused not-built\nstatus 3\n",
-            left: files,
-            ..REFUSED
-        };
-        check(&rt, rt.alloc(), &case);
+fn the_other_commands_settle_or_change_nothing(rt: HostRuntime) -> Result<(), Fail> {
+    for case in &OTHERS {
+        check(&rt, rt.alloc(), case)?;
     }
-}
-
-const WITH_STATE: [&[(&str, &str)]; 2] = [&[STATE, JOB], &[("j1/state", ""), JOB]];
-
-/// A job with a state is refused whatever the state's bytes are, and the source isn't asked.
-#[test]
-fn a_state_that_is_there(rt: HostRuntime) {
-    for files in WITH_STATE {
-        let case = Case {
-            files,
-            fails: UNASKED,
-            text: "refused not-built state\nstatus 3\n",
-            left: files,
-            ..REFUSED
-        };
-        check(&rt, rt.alloc(), &case);
-    }
-}
-
-type Parts = &'static [(&'static str, &'static [u8])];
-
-type Pulls = &'static [(&'static str, u64, u64)];
-
-/// A partition of one plain line before and after those that aren't plain.
-const BEFORE: (&str, &[u8]) = ("a.log", b"x\n");
-
-const AFTER: (&str, &[u8]) = ("c.log", b"x\n");
-
-const NOT_PLAIN: [(Parts, Pulls); 6] = [
-    (
-        &[BEFORE, ("b.log", b"x\r\n"), AFTER],
-        &[("a.log", 0, 2), ("b.log", 0, 3)],
-    ),
-    (
-        &[BEFORE, ("b.log", b"x\ny\r\nz\n"), AFTER],
-        &[("a.log", 0, 2), ("b.log", 0, 7)],
-    ),
-    (
-        &[BEFORE, ("b.log", b"\r\r\n"), AFTER],
-        &[("a.log", 0, 2), ("b.log", 0, 3)],
-    ),
-    (
-        &[BEFORE, ("b.log", b"\xff\n"), AFTER],
-        &[("a.log", 0, 2), ("b.log", 0, 2)],
-    ),
-    (
-        &[BEFORE, ("b.log", b"x\n\xc3\n\xa9\n"), AFTER],
-        &[("a.log", 0, 2), ("b.log", 0, 6)],
-    ),
-    (
-        &[BEFORE, ("b.log", b"\xed\xa0\x80\n"), AFTER],
-        &[("a.log", 0, 2), ("b.log", 0, 4)],
-    ),
-];
-
-/// A carriage return before a line feed, or bytes that aren't UTF-8: nothing is written, for no partition.
-#[test]
-fn lines_that_are_not_plain(rt: HostRuntime) {
-    for (parts, pulls) in NOT_PLAIN {
-        let case = Case {
-            parts,
-            text: "refused not-built input\nstatus 3\n",
-            pulls,
-            ..REFUSED
-        };
-        check(&rt, rt.alloc(), &case);
-    }
-}
-
-const HALF_LINES: [Parts; 2] = [&[("a.log", b"x\ny\n\xff\r")], &[("a.log", b"x\ny\n\xc3")]];
-
-/// A line that isn't whole is not read, so it is not refused either.
-#[test]
-fn half_a_line_is_not_judged(rt: HostRuntime) {
-    for parts in HALF_LINES {
-        check(&rt, rt.alloc(), &Case { parts, ..PLAIN });
-    }
+    Ok(())
 }
