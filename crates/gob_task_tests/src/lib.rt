@@ -1,7 +1,0 @@
-//! The tests of tasks, over public items: units that are pulled from a source in memory, and staged on a volume in memory.
-#![tactic(auto)]
-
-#[cfg(test)]
-mod tasks;
-#[cfg(test)]
-mod worked;
