@@ -40,7 +40,7 @@ pub(crate) fn pipeline_of(alloc: Global, job: &str) -> Result<Pipeline, Fail> {
 impl Bench {
     pub fn new(alloc: Global, job: &str) -> Result<Bench, Fail> {
         let pipeline = pipeline_of(alloc, job)?;
-        let branches = pipeline.plan().branches.len() as u32;
+        let branches = pipeline.plan().fork.branches;
         let buffers = TargetBuffers::new(alloc, branches)?;
         let machine = Machine::new(alloc, &pipeline, 0)?;
         Ok(Bench {
@@ -130,7 +130,7 @@ impl Bench {
     fn push_counts(&self, into: &mut Vec<u8>) -> Result<(), NoMemory> {
         let counts = self.machine.counts();
         let of_lines = [counts.records, counts.bad, counts.rows, counts.unrouted];
-        push_numbers(into, "all", &of_lines)?;
+        push_numbers(into, "", &of_lines)?;
         for branch in counts.branches.as_slice() {
             push_numbers(into, ",", &[branch.written, branch.errors, branch.optional])?;
         }
@@ -145,7 +145,9 @@ impl Bench {
 fn push_numbers(into: &mut Vec<u8>, word: &str, numbers: &[u64]) -> Result<(), NoMemory> {
     into.extend_from_slice(word.as_bytes())?;
     for number in numbers {
-        into.push(b' ')?;
+        if !into.is_empty() {
+            into.push(b' ')?;
+        }
         push_u64(into, *number)?;
     }
     Ok(())

@@ -4,8 +4,7 @@ ghost use Rattle.std.specs.Prelude.{◌≡◌, true};
 ghost use Rattle.gob_pipeline.specs.Made.{is_placed, target_value};
 
 use crate::bench::pipeline_of;
-use gob_pipeline::{Target, name_of};
-use gob_plan::Plan;
+use gob_pipeline::{Pipeline, Target, name_of};
 use std::alloc::Global;
 use std::process::Abort;
 use std::test::Fail;
@@ -20,46 +19,37 @@ fn same_text(rt: &impl Abort, found: &str, wanted: &str) {
 fn is_named(
     rt: &impl Abort,
     alloc: Global,
-    plan: &Plan,
+    pipeline: &Pipeline,
     target: Target<'_>,
-    wanted: &str,
+    front: &str,
+    ending: &str,
 ) -> Result<(), Fail>
     requires { is_placed (target_value target) ≡ true }
 {
+    let plan = pipeline.plan();
     let name = name_of(alloc, plan, "a b/\u{e9}.log", 7, u64::MAX, target)?;
-    same_text(rt, name.as_str(), wanted);
+    let mut wanted = String::from_str(alloc, front)?;
+    wanted.push_str("a%20b%2F%C3%A9.log@00000000000000000007-18446744073709551615.")?;
+    wanted.push_str(ending)?;
+    same_text(rt, name.as_str(), wanted.as_str());
     Ok(())
 }
 
 #[test]
 fn files_are_named_for_their_targets(rt: HostRuntime) -> Result<(), Fail> {
-    let pipeline = pipeline_of(rt.alloc(), TWO)?;
-    let plan = pipeline.plan();
-    is_named(
-        &rt,
-        rt.alloc(),
-        plan,
-        Target::Bad,
-        "err/line/a%20b%2F%C3%A9.log@00000000000000000007-18446744073709551615.raw",
-    )?;
-    is_named(
-        &rt,
-        rt.alloc(),
-        plan,
+    let alloc = rt.alloc();
+    let two = pipeline_of(alloc, TWO)?;
+    let (out, err) = (
         Target::Out {
             branch: 1,
             place: "",
         },
-        "out/1/a%20b%2F%C3%A9.log@00000000000000000007-18446744073709551615.json",
-    )?;
-    is_named(
-        &rt,
-        rt.alloc(),
-        plan,
         Target::Err {
             branch: 0,
             place: "none/",
         },
-        "err/0/none/a%20b%2F%C3%A9.log@00000000000000000007-18446744073709551615.csv",
-    )
+    );
+    is_named(&rt, alloc, &two, Target::Bad, "err/line/", "raw")?;
+    is_named(&rt, alloc, &two, out, "out/1/", "json")?;
+    is_named(&rt, alloc, &two, err, "err/0/none/", "csv")
 }

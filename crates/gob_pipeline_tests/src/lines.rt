@@ -6,25 +6,21 @@ use std::test::Fail;
 const PLAIN: &str = "source.format=lines\nwriter.format=lines\n";
 
 const PLAIN_LINES: [Case; 11] = [
-    (b"", b"", b"all 0 0 0 0, 0 0 0"),
-    (b"a\nbc\n", b"out0:a\nbc\n", b"all 2 0 2 0, 2 0 0"),
-    (b"a\r\n\r\n\n", b"out0:a\n\n\n", b"all 3 0 3 0, 3 0 0"),
-    (
-        b"a\rb\r\r\n\r",
-        b"out0:a\rb\r\n",
-        b"all 1 0 1 0, 1 0 0 torn",
-    ),
-    (b"a\nbc", b"out0:a\n", b"all 1 0 1 0, 1 0 0 torn"),
-    (b"\r", b"", b"all 0 0 0 0, 0 0 0 torn"),
+    (b"", b"", b"0 0 0 0, 0 0 0"),
+    (b"a\nbc\n", b"out0:a\nbc\n", b"2 0 2 0, 2 0 0"),
+    (b"a\r\n\r\n\n", b"out0:a\n\n\n", b"3 0 3 0, 3 0 0"),
+    (b"a\rb\r\r\n\r", b"out0:a\rb\r\n", b"1 0 1 0, 1 0 0 torn"),
+    (b"a\nbc", b"out0:a\n", b"1 0 1 0, 1 0 0 torn"),
+    (b"\r", b"", b"0 0 0 0, 0 0 0 torn"),
     (
         b"\xef\xbb\xbf\0\n\0\n",
         b"out0:\xef\xbb\xbf\0\n\0\n",
-        b"all 2 0 2 0, 2 0 0",
+        b"2 0 2 0, 2 0 0",
     ),
     (
         b"\xf0\x9f\x98\x80\n",
         b"out0:\xf0\x9f\x98\x80\n",
-        b"all 1 0 1 0, 1 0 0",
+        b"1 0 1 0, 1 0 0",
     ),
     // It begins at 7.
     (b"a\n\xff\nb\n", b"out0:a\n", b"bad 9"),
@@ -39,12 +35,12 @@ const LENIENT_LINES: [Case; 3] = [
     (
         b"\xc3\r\n\xc3\xa9\n",
         b"bad0:\xc3\r\nout0:\xc3\xa9\n",
-        b"all 2 1 1 0, 1 0 0",
+        b"2 1 1 0, 1 0 0",
     ),
     (
         b"a\n\xff\n\xff",
         b"bad0:\xff\nout0:a\n",
-        b"all 2 1 1 0, 1 0 0 torn",
+        b"2 1 1 0, 1 0 0 torn",
     ),
     (
         b"\xff\na\n\xfe\nb\n\xfd\n",
@@ -58,13 +54,13 @@ const HEADER: &str =
     "source.format=csv\nsource.columns=id:int\nsource.skip.header=true\nwriter.format=csv\n";
 
 const HEADER_LINES: [Case; 3] = [
-    (b"id\n7\n", b"out0:7\n", b"all 1 0 1 0, 1 0 0"),
-    (b"\xff\r\n\n8\n", b"out0:8\n", b"all 2 0 1 0, 1 0 0"),
-    (b"id", b"", b"all 0 0 0 0, 0 0 0 torn"),
+    (b"id\n7\n", b"out0:7\n", b"1 0 1 0, 1 0 0"),
+    (b"\xff\r\n\n8\n", b"out0:8\n", b"2 0 1 0, 1 0 0"),
+    (b"id", b"", b"0 0 0 0, 0 0 0 torn"),
 ];
 
 const LATER_LINES: [Case; 2] = [
-    (b"7\n8\n", b"out0:7\n8\n", b"all 2 0 2 0, 2 0 0"),
+    (b"7\n8\n", b"out0:7\n8\n", b"2 0 2 0, 2 0 0"),
     (b"id\n7\n", b"", b"bad 3"),
 ];
 

@@ -18,6 +18,6 @@ fn a_line_over_many_pieces_is_one_line(rt: HostRuntime) -> Result<(), Fail> {
     wanted.extend_from_slice(line.as_slice())?;
     wanted.extend_from_slice(b"\nb\n")?;
     same_bytes(&rt, bench.sent()?.as_slice(), wanted.as_slice());
-    same_bytes(&rt, bench.end()?.as_slice(), b"all 3 0 3 0, 3 0 0");
+    same_bytes(&rt, bench.end()?.as_slice(), b"3 0 3 0, 3 0 0");
     Ok(())
 }
