@@ -1,12 +1,12 @@
 //! Units that are cut into pieces in each way.
 
 use crate::bench::Bench;
-use std::alloc::Global;
+use std::alloc::{AllocError, Global};
 use std::process::Abort;
 use std::test::Fail;
 
-/// The bytes of a unit, what they send, and what they count or why they stop.
-pub(crate) type Case = (&'static [u8], &'static [u8], &'static [u8]);
+/// The bytes of a unit, what they send, and what they count or why they stop. `~` stands for a byte that no text has.
+pub(crate) type Case = (&'static str, &'static str, &'static str);
 
 /// Where pieces end.
 #[derive(Clone, Copy)]
@@ -60,12 +60,22 @@ fn feed_cut(rt: &impl Abort, bench: &mut Bench, bytes: &[u8], cut: Cut) -> Resul
     bench.feed(rt, piece.as_slice())
 }
 
+fn bytes_of(alloc: Global, text: &str) -> Result<Vec<u8>, AllocError> {
+    let mut bytes = Vec::new(alloc);
+    for byte in text.as_bytes() {
+        bytes.push(if *byte == b'~' { 0xff } else { *byte })?;
+    }
+    Ok(bytes)
+}
+
 fn is_so(rt: &impl Abort, bench: &mut Bench, lo: u64, case: &Case, cut: Cut) -> Result<(), Fail> {
+    let bytes = bytes_of(bench.alloc(), case.0)?;
+    let sent = bytes_of(bench.alloc(), case.1)?;
     bench.start(lo)?;
-    feed_cut(rt, bench, case.0, cut)?;
-    same_bytes(rt, bench.sent()?.as_slice(), case.1);
-    same_bytes(rt, bench.end()?.as_slice(), case.2);
-    assert!(rt; bench.seen() == case.0.len() as u64);
+    feed_cut(rt, bench, bytes.as_slice(), cut)?;
+    same_bytes(rt, bench.sent()?.as_slice(), sent.as_slice());
+    same_bytes(rt, bench.end()?.as_slice(), case.2.as_bytes());
+    assert!(rt; bench.seen() == bytes.len() as u64);
     Ok(())
 }
 
