@@ -89,6 +89,13 @@ fn is_always_so(rt: &impl Abort, bench: &mut Bench, lo: u64, case: &Case) -> Res
     Ok(())
 }
 
+fn each_on(rt: &impl Abort, bench: &mut Bench, lo: u64, cases: &[Case]) -> Result<(), Fail> {
+    for case in cases {
+        is_always_so(rt, bench, lo, case)?;
+    }
+    Ok(())
+}
+
 /// Each unit of the job that begins here comes to what its case says, whatever pieces it is cut into.
 pub(crate) fn each_is_so(
     rt: &impl Abort,
@@ -98,8 +105,5 @@ pub(crate) fn each_is_so(
     cases: &[Case],
 ) -> Result<(), Fail> {
     let mut bench = Bench::new(alloc, job)?;
-    for case in cases {
-        is_always_so(rt, &mut bench, lo, case)?;
-    }
-    Ok(())
+    each_on(rt, &mut bench, lo, cases)
 }

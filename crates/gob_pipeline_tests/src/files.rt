@@ -35,21 +35,30 @@ fn is_named(
     Ok(())
 }
 
+fn are_named(rt: &impl Abort, alloc: Global, pipeline: &Pipeline) -> Result<(), Fail> {
+    let (branch, place) = (1, "");
+    is_named(rt, alloc, pipeline, Target::Bad, "err/line/", "raw")?;
+    is_named(
+        rt,
+        alloc,
+        pipeline,
+        Target::Out { branch, place },
+        "out/1/",
+        "json",
+    )?;
+    let (branch, place) = (0, "none/");
+    is_named(
+        rt,
+        alloc,
+        pipeline,
+        Target::Err { branch, place },
+        "err/0/none/",
+        "csv",
+    )
+}
+
 #[test]
 fn files_are_named_for_their_targets(rt: HostRuntime) -> Result<(), Fail> {
-    let alloc = rt.alloc();
-    let two = pipeline_of(alloc, TWO)?;
-    let (out, err) = (
-        Target::Out {
-            branch: 1,
-            place: "",
-        },
-        Target::Err {
-            branch: 0,
-            place: "none/",
-        },
-    );
-    is_named(&rt, alloc, &two, Target::Bad, "err/line/", "raw")?;
-    is_named(&rt, alloc, &two, out, "out/1/", "json")?;
-    is_named(&rt, alloc, &two, err, "err/0/none/", "csv")
+    let two = pipeline_of(rt.alloc(), TWO)?;
+    are_named(&rt, rt.alloc(), &two)
 }

@@ -2,22 +2,33 @@
 
 use crate::bench::Bench;
 use crate::cuts::same_bytes;
+use std::alloc::{AllocError, Global};
+use std::process::Abort;
 use std::test::Fail;
+
+/// A long line behind this front, and behind that this back.
+fn around_a_line(alloc: Global, front: &str, back: &str) -> Result<Vec<u8>, AllocError> {
+    let mut bytes = Vec::from_slice(alloc, front.as_bytes())?;
+    for _ in 0..300_000 {
+        bytes.push(b'x')?;
+    }
+    bytes.extend_from_slice(back.as_bytes())?;
+    Ok(bytes)
+}
+
+fn is_one_line(rt: &impl Abort, bench: &mut Bench) -> Result<(), Fail> {
+    let bytes = around_a_line(bench.alloc(), "a\n", "\r\nb\n")?;
+    for piece in bytes.chunks(997) {
+        bench.feed(rt, piece)?;
+    }
+    let wanted = around_a_line(bench.alloc(), "out0:a\n", "\nb\n")?;
+    same_bytes(rt, bench.sent()?.as_slice(), wanted.as_slice());
+    same_bytes(rt, bench.end()?.as_slice(), b"3 0 3 0, 3 0 0");
+    Ok(())
+}
 
 #[test]
 fn a_line_over_many_pieces_is_one_line(rt: HostRuntime) -> Result<(), Fail> {
-    let line = vec![in rt.alloc(); b'x'; 300_000]?;
-    let mut bytes = Vec::from_slice(rt.alloc(), b"a\n")?;
-    bytes.extend_from_slice(line.as_slice())?;
-    bytes.extend_from_slice(b"\r\nb\n")?;
     let mut bench = Bench::new(rt.alloc(), "source.format=lines\nwriter.format=lines\n")?;
-    for piece in bytes.chunks(997) {
-        bench.feed(&rt, piece)?;
-    }
-    let mut wanted = Vec::from_slice(rt.alloc(), b"out0:a\n")?;
-    wanted.extend_from_slice(line.as_slice())?;
-    wanted.extend_from_slice(b"\nb\n")?;
-    same_bytes(&rt, bench.sent()?.as_slice(), wanted.as_slice());
-    same_bytes(&rt, bench.end()?.as_slice(), b"3 0 3 0, 3 0 0");
-    Ok(())
+    is_one_line(&rt, &mut bench)
 }
