@@ -1,5 +1,5 @@
 //! A unit that is fed to a machine piece by piece, and what came of it, in short.
-ghost use Rattle.std.specs.Prelude.{◌≡◌, ◌≤◌, ◌<◌, ◌+◌, ◌*◌, ◌^◌, length, IfOk};
+ghost use Rattle.std.specs.Prelude.{◌≡◌, ◌≤◌, ◌+◌, ◌*◌, ◌^◌, length};
 
 use gob_job::read_job;
 use gob_pipeline::{Machine, Pipeline, Target, TargetBuffers, Workspace, target_at};
