@@ -44,7 +44,7 @@ pub fn run(
     })
 }
 
-// What comes of the unit, turn by turn.
+// What comes of the unit.
 fn worked(
     alloc: Global,
     rules: &TaskRules,
@@ -55,10 +55,24 @@ fn worked(
     requires { IsPullable unit.now }
 {
     let mut bench = Bench::new(alloc, rules)?;
+    by_turns(alloc, rules, unit, &mut bench, source, volume)
+}
+
+// The same, turn by turn.
+fn by_turns(
+    alloc: Global,
+    rules: &TaskRules,
+    unit: &Unit,
+    bench: &mut Bench,
+    source: &mut MemSource,
+    volume: &mut MemVolume,
+) -> Result<Option<UnitResult>, TurnFault>
+    requires pullable { IsPullable unit.now }
+    requires bench { FitsBench rules.now bench.old }
+{
     let mut task = Task::start(alloc, rules, unit, 7)?;
-    let turn = last_turn(alloc, rules, &mut task, &mut bench, source, volume)?;
-    let result = ended(alloc, rules, turn, task, volume)?;
-    Ok(result)
+    let turn = last_turn(alloc, rules, &mut task, bench, source, volume)?;
+    ended(alloc, rules, turn, task, volume)
 }
 
 // The turn that ends the task.
@@ -107,13 +121,16 @@ fn ended(
     requires stands { StandsAfter rules.now task turn }
     requires there { AreThere task.staged (told_by volume.old).files }
 {
+    if let Turn::Whole = turn {
+        let result = task.finish(alloc, rules, volume)?;
+        return Ok(Some(result));
+    }
+    Ok(failed(turn))
+}
+
+fn failed(turn: Turn) -> Option<UnitResult> {
     match turn {
-        Turn::Going => Ok(None),
-        Turn::Retry => Ok(None),
-        Turn::Failed(cause) => Ok(Some(UnitResult::Failed { cause })),
-        Turn::Whole => {
-            let result = task.finish(alloc, rules, volume)?;
-            Ok(Some(result))
-        }
+        Turn::Failed(cause) => Some(UnitResult::Failed { cause }),
+        _ => None,
     }
 }
