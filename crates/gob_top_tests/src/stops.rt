@@ -130,7 +130,7 @@ fn recovered_commits(alloc: Global, calls: u64, tail: &[u8]) -> Result<u64, Fail
 /// The later a run stops the more of its commits stand: first none and last all.
 fn check_commits(rt: &impl Abort, alloc: Global, tail: &[u8]) -> Result<(), Fail> {
     let mut before = 0u64;
-    let mut steps = 0;
+    let mut steps = 0u64;
     for calls in 0..CHANGES + 1 {
         let commits = recovered_commits(alloc, calls, tail)?;
         same_truth(
@@ -139,7 +139,7 @@ fn check_commits(rt: &impl Abort, alloc: Global, tail: &[u8]) -> Result<(), Fail
             true,
         );
         if commits > before {
-            steps += 1;
+            steps = steps.saturating_add(1);
         }
         before = commits;
     }
