@@ -53,8 +53,8 @@ pub fn commit_groups<V: Volume>(
     Ok(Committed { after, committed })
 }
 
-// No state counts as the empty one.
-fn state_or_empty(alloc: Global, branches: u32, loaded: Loaded) -> Result<State, NoMemory>
+/// The state that was loaded; where there is none it counts as the empty one.
+pub fn state_or_empty(alloc: Global, branches: u32, loaded: Loaded) -> Result<State, NoMemory>
     requires branches { (1 ≤ branches) × (branches ≤ 8) }
     requires loaded { LoadedFits loaded }
     ensures state { IfOk result (λ s. s ≡ state_or branches loaded.state) }

@@ -8,6 +8,8 @@ mod compare;
 #[cfg(test)]
 mod made;
 #[cfg(test)]
+mod plans;
+#[cfg(test)]
 mod refusals;
 #[cfg(test)]
 mod runs;

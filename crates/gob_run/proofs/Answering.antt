@@ -1,5 +1,5 @@
 -- A run behind its work: all that it answers follows of how it began, what was cut, and what its turns and commits did.
-use Rattle.std.proofs.Common.{◌≡◌, ◌⊎◌, inl, inr, ℕ, ◌+◌, ◌*◌, ◌≤◌, List, [], refl, sym, ap, ◌∙◌}
+use Rattle.std.proofs.Common.{◌≡◌, ◌⊎◌, inl, inr, ℕ, ◌+◌, ◌*◌, ◌≤◌, List, [], refl, sym, ap, subst, ◌∙◌}
 use Rattle.std.proofs.Common.{Some, None}
 use Rattle.std.proofs.Common.{arith, IfOk, IfErr, IfSome, length}
 use Rattle.std.specs.declared.option.Option.{Option}
@@ -20,7 +20,7 @@ use Rattle.gob_history.specs.Runs.{run_units, state_or_empty}
 use Rattle.gob_cut.specs.declared.run_units.Cut.{Cut}
 use Rattle.gob_segments.specs.declared.change.Loaded.{Loaded}
 use Rattle.gob_state.specs.declared.next.Outcome.{Outcome}
-use Rattle.gob_turns.specs.Taken.{FailuresRose, given_up_in}
+use Rattle.gob_turns.specs.Taken.{FailuresRose, HasPulled, given_up_in}
 use Rattle.gob_run.specs.Answers.{Answer, FaultCaused, RunAnswered, RunIsDone}
 use Rattle.gob_run.specs.Answers.{ToldFirst}
 use Rattle.gob_run.specs.Cutting.{CutFits, parts_of}
@@ -29,9 +29,10 @@ use Rattle.gob_run.specs.Working.{WorkIsDone, WorkStops, Worked}
 use Rattle.gob_run.specs.World.{GoesOn, World}
 use Rattle.gob_run.specs.declared.fault.RunFault.{RunFault}
 use Rattle.gob_run.specs.declared.fault.RunFault.TheVariants.{Damaged, Shrunk, Full, SourceFault, VolumeFault, Memory}
-use Rattle.gob_run.proofs.Began.{Began, began_of, entry_of, found_is_one, not_broken, parts_same}
+use Rattle.gob_run.proofs.Began.{Began, began_of, entry_of, found_is_one, not_broken, parts_same, settled_to}
 use Rattle.gob_run.proofs.Counting.{new_count_told}
-use Rattle.gob_run.proofs.Trailing.{IsUnderway, TellsCut, cut_told, left_of, trail_of, units_are}
+use Rattle.gob_run.proofs.Trailing.{IsUnderway, TellsCut, cut_told, filed_of, left_of, published_of, trail_of}
+use Rattle.gob_run.proofs.Trailing.{units_are}
 
 -- what holds of each value that may be there
 pub where_some : {X : Type 0} (o : Option X) (P : X → Type 0) → ((x : X) → o ≡ Some x → P x) → IfSome o P
@@ -62,8 +63,9 @@ begun : (job : Job) (l : Loaded) (cut : Cut) (old mid : World) (d : Disk) → Is
 begun job l cut old mid d u is = began_of job.name l old.disk mid.disk d u.found u.alike u.names is
 
 is_done : (job : Job) (failing : List ℕ) (l : Loaded) (cut : Cut) (out : Outcome) (old mid new : World)
-    → IsUnderway job l cut old mid → WorkIsDone job failing l cut out mid new → RunIsDone job failing out old new
-is_done job failing l cut out old mid new u w = record {
+    → IsUnderway job l cut old mid → WorkIsDone job failing l cut out mid new
+    → (out.units ≡ [] → new.disk ≡ mid.disk) → RunIsDone job failing out old new
+is_done job failing l cut out old mid new u w still = record {
   found = l.state;
   entry = where_some old.disk (λ d. Entry job.name d.files l.state)
       (λ d is. let b = begun job l cut old mid d u is in entry_of job.name l d b.0 b.2);
@@ -84,7 +86,7 @@ is_done job failing l cut out old mid new u w = record {
   left = λ d s is_d is_s.
       let b = begun job l cut old mid d u is_d in
       let told = w.told s (u.supply ∙ is_s) in
-      let went = w.left b.0 s b.1 (u.supply ∙ is_s) (settled_is job.name d.files b.0.files b.2.settles) b.2.kept
+      let went = w.left s (u.supply ∙ is_s) b.0 b.1 (settled_is job.name d.files b.0.files b.2.settles) b.2.kept
       b.2.keeps b.2.loaded in
       let t = with_pulls (pulls_in (turns_of job s.held cut.units failing)) s in (
         went.0,
@@ -94,8 +96,14 @@ is_done job failing l cut out old mid new u w = record {
         left_of job failing l cut out d b.0 went.0 s t (cut_told job l cut old mid s u is_s) b.2 w.units told.verdicts
             went.2,
       );
+  filed = λ d is.
+      let b = begun job l cut old mid d u is in
+      let went = w.filed b.0 b.1 (settled_is job.name d.files b.0.files b.2.settles) b.2.kept b.2.keeps b.2.loaded in
+      (went.0, went.1, filed_of job l out d b.0 went.0 b.2 went.2);
   gave_up = rose_by_after (given_up_in out.results * (job.max_retries + 1)) old.source_faults mid.source_faults
       new.source_faults u.goes_on.source w.gave_up;
+  idle = λ none d is.
+      let b = begun job l cut old mid d u is in (b.0, still none ∙ b.1, settled_to job.name l d b.0 b.2);
 }
 
 -- ---- what was not to be refused
@@ -141,9 +149,9 @@ caused_where job (Err f) old mid new on stops = caused job f old mid new on stop
 
 done_where : (job : Job) (failing : List ℕ) (l : Loaded) (cut : Cut) (a : Answer) (old mid new : World)
     → IsUnderway job l cut old mid → IfOk a (λ out. WorkIsDone job failing l cut out mid new)
-    → IfOk a (λ out. RunIsDone job failing out old new)
-done_where job failing l cut (Ok out) old mid new u w = is_done job failing l cut out old mid new u w
-done_where job failing l cut (Err f) old mid new u w = tt
+    → IfOk a (λ out. out.units ≡ [] → new.disk ≡ mid.disk) → IfOk a (λ out. RunIsDone job failing out old new)
+done_where job failing l cut (Ok out) old mid new u w still = is_done job failing l cut out old mid new u w still
+done_where job failing l cut (Err f) old mid new u w still = tt
 
 -- only a volume that failed, or want of memory, stops the work
 ends : (a : Answer) (old mid new : World) → GoesOn old mid → IfErr a (WorkStops mid new)
@@ -158,13 +166,14 @@ ends (Err VolumeFault) old mid new on stops still =
 ends (Err Memory) old mid new on stops still = inr refl
 
 pub answered_behind_work : (job : Job) (failing : List ℕ) (l : Loaded) (cut : Cut) (a : Answer) (old mid new : World)
-    → IsUnderway job l cut old mid → Worked job failing l cut a mid new → RunAnswered job failing a old new
-answered_behind_work job failing l cut a old mid new u w = record {
-  done = done_where job failing l cut a old mid new u w.done;
+    → IsUnderway job l cut old mid → Worked job failing l cut a mid new
+    → IfOk a (λ out. out.units ≡ [] → new.disk ≡ mid.disk) → RunAnswered job failing a old new
+answered_behind_work job failing l cut a old mid new u w still = record {
+  done = done_where job failing l cut a old mid new u w.done still;
   trail = λ d s is_d is_s.
       let b = begun job l cut old mid d u is_d in
       let p = w.pulls s (u.supply ∙ is_s) in
-      let went = w.along b.0 s b.1 (u.supply ∙ is_s) (settled_is job.name d.files b.0.files b.2.settles) b.2.kept
+      let went = w.along s (u.supply ∙ is_s) b.0 b.1 (settled_is job.name d.files b.0.files b.2.settles) b.2.kept
       b.2.keeps b.2.loaded in (
         went.0,
         with_pulls p.pulls s,
@@ -173,6 +182,10 @@ answered_behind_work job failing l cut a old mid new u w = record {
         trail_of job failing l cut d b.0 went.0 s (with_pulls p.pulls s) u.right (cut_told job l cut old mid s u is_s)
             b.2 went.2,
       );
+  published = λ d is.
+      let b = begun job l cut old mid d u is in
+      let went = w.filed b.0 b.1 (settled_is job.name d.files b.0.files b.2.settles) b.2.kept b.2.keeps b.2.loaded in
+      (went.0, went.1, published_of job l cut old.supply d b.0 went.0 u.fits b.2 went.2);
   pulls = λ s is.
       let p = w.pulls s (u.supply ∙ is) in
       let units = units_are job l cut s (cut_told job l cut old mid s u is) in (
@@ -190,7 +203,7 @@ answered_behind_work job failing l cut a old mid new u w = record {
       let b = begun job l cut old mid d u is_d in
       let p = w.pulls s (u.supply ∙ is_s) in
       let units = units_are job l cut s (cut_told job l cut old mid s u is_s) in
-      let went = w.along b.0 s b.1 (u.supply ∙ is_s) (settled_is job.name d.files b.0.files b.2.settles) b.2.kept
+      let went = w.along s (u.supply ∙ is_s) b.0 b.1 (settled_is job.name d.files b.0.files b.2.settles) b.2.kept
       b.2.keeps b.2.loaded in (
         went.0,
         with_pulls p.pulls s,
@@ -207,6 +220,7 @@ answered_behind_work job failing l cut a old mid new u w = record {
           );
         },
       );
+  pulled = subst (λ o. HasPulled o new.supply) u.supply w.pulled;
   failed = failures_after failing old.source_faults mid.source_faults new.source_faults u.goes_on.source w.failed;
   caused = caused_where job a old mid new u.goes_on w.stopped;
   due = record {

@@ -18,7 +18,8 @@ use Rattle.gob_segments.specs.Loading.{LoadedFits}
 use Rattle.gob_segments.specs.declared.change.Loaded.{Loaded}
 use Rattle.gob_task.specs.Turn.{TurnRulesValue}
 use Rattle.gob_turns.specs.Asked.{AreHeld, IsWorkedBy, MayHaveTurns}
-use Rattle.gob_turns.specs.Taken.{AreCommittable, AreFirstPulls, AreResults, FailuresRose, given_up_in}
+use Rattle.gob_turns.specs.Taken.{AllGiven, AreCommittable, AreFirstPulls, AreResults, FailuresRose, HasPulled}
+use Rattle.gob_turns.specs.Taken.{given_up_in}
 use Rattle.gob_commit.specs.Going.{CommitsAre, GoesAlong, GoesToEnd}
 use Rattle.gob_commit.specs.Staged.{AreThere, CanCommit, HasRules, all_pairs}
 use Rattle.gob_commit.specs.declared.rules.CommitRules.{CommitRules}
@@ -28,6 +29,7 @@ use Rattle.gob_run.specs.Cutting.{CutFits, CutIsTold, parts_of}
 use Rattle.gob_run.specs.World.{World}
 use Rattle.gob_run.specs.declared.fault.RunFault.{RunFault}
 use Rattle.gob_run.proofs.Fitting.{are_held, are_there, can_commit, is_worked, may_have_turns, proper_parts, rules_of}
+use Rattle.gob_run.proofs.Given.{given_over, tiled_parts}
 use Rattle.gob_run.proofs.Worked.{CommitsSay, HaveRanges, TurnsEnd, TurnsSay}
 
 -- what the work begins with
@@ -71,6 +73,7 @@ pub record TurnsLeave (job : List ℕ) (failing : List ℕ) (old new : World) : 
   pub source : old.source_faults ≤ new.source_faults
   pub planned : new.plan_faults ≡ old.plan_faults
   pub volume : old.volume_faults ≤ new.volume_faults
+  pub pulled : HasPulled old.supply new.supply
 
 pub turns_say : (job : Job) (l : Loaded) (cut : Cut) (rules : TurnRulesValue) (units : List WorkUnit)
     (failing : List ℕ) (old new : World) → Begins job l cut old → AreTheirs job cut rules units
@@ -81,6 +84,7 @@ turns_say job l cut rules units failing old new begins theirs told left = record
       (of_the_job job l cut rules units old (λ j t. AreFirstPulls j t units failing new.supply) begins theirs told s
       is);
   maps = subst (λ (r : TurnRulesValue). Along (OnlyBelow (staging r.job)) old.disk new.disk) theirs.rules_are left.maps;
+  pulled = left.pulled;
   failed = left.failed;
   planned = left.planned;
   goes_on = record {
@@ -94,14 +98,19 @@ pub turns_end : (job : Job) (l : Loaded) (cut : Cut) (rules : TurnRulesValue) (u
     (failing : List ℕ) (results : List UnitResult) (old new : World) → Begins job l cut old
     → AreTheirs job cut rules units → TurnsSay job cut failing old new
     → OfTheJob rules job.turns units old (λ j s. AreResults j s units failing results new.supply new.disk)
+    → ((j : Job) → IsWorkedBy rules job.turns j → AllGiven j units results new.disk)
     → RoseBy (given_up_in results * (rules.max_retries + 1)) old.source_faults new.source_faults
     → TurnsEnd job cut failing results old new
-turns_end job l cut rules units failing results old new begins theirs say whole gave_up = record {
+turns_end job l cut rules units failing results old new begins theirs say whole given gave_up = record {
   say = say;
   whole = λ s is. subst (λ (us : List WorkUnit). AreResults job s us failing results new.supply new.disk)
       theirs.units_are
       (of_the_job job l cut rules units old (λ j t. AreResults j t units failing results new.supply new.disk) begins
       theirs whole s is);
+  given = given_over job (parts_of l.state) cut.units results new.disk begins.fits.are.fit
+      (tiled_parts l.state begins.loaded.proper)
+      (subst (λ (us : List WorkUnit). AllGiven job us results new.disk) theirs.units_are
+      (given job (subst (λ (r : TurnRulesValue). IsWorkedBy r job.turns job) (sym theirs.rules_are) (is_worked job))));
   gave_up = subst (λ (r : TurnRulesValue). RoseBy (given_up_in results * (r.max_retries + 1)) old.source_faults
       new.source_faults) theirs.rules_are gave_up;
 }

@@ -3,6 +3,7 @@ pub mod Named
 pub mod Readers
 mod Lasting
 mod Reading
+mod Published
 mod Wents
 mod Began
 mod Counting
@@ -11,6 +12,11 @@ mod Answering
 mod Settled
 mod Refusing
 mod Fitting
+mod Holding
+mod Apart
+mod Given
 mod Staging
+mod Filing
 mod Worked
+mod Idle
 mod Called

@@ -1,34 +1,37 @@
 -- A run that is refused, or stopped, before its first pull: what it answers, and what it leaves.
-use Rattle.std.proofs.Common.{◌≡◌, ◌⊎◌, inl, inr, ℕ, List, [], ◌++◌, refl, sym, ap, subst, ◌∙◌, Some, None, IfSome}
+use Rattle.std.proofs.Common.{◌≡◌, ◌⊎◌, ⊎_elim, inl, inr, ℕ, List, [], ◌++◌, refl, sym, ap, subst, ◌∙◌, Some, None, IfSome}
 use Rattle.std.proofs.Common.{append-nil, option_map, arith, ◌≤◌}
-use Rattle.std.proofs.lemmas.List.{append_cancel_left}
+use Rattle.std.specs.List.{IsDistinct, flat_map}
 use Rattle.std.specs.declared.option.Option.{Option}
 use Rattle.std.specs.declared.result.Result.TheVariants.{Err}
 use Rattle.gob_bytes.specs.Paths.{under}
 use Rattle.gob_bytes.specs.Tables.{Table}
-use Rattle.gob_device.specs.Disk.{AddsMaps, Along, Both, Disk, Files, Went, last_map}
+use Rattle.gob_device.specs.Disk.{AddsMaps, Along, Both, Disk, EachOf, Files, Went, last_map}
 use Rattle.gob_device.specs.Causes.{Rose}
 use Rattle.gob_device.specs.Supply.{Held, Supply, with_pulls}
-use Rattle.gob_device.proofs.Trail.{both_map, maps_map}
+use Rattle.gob_device.proofs.Trail.{both_map, each-map, maps_map}
 use Rattle.gob_meaning.specs.Job.{Job}
 use Rattle.gob_ledger.specs.Delta.{KeepsAs, state_of}
 use Rattle.gob_ledger.specs.Marks.{Marks}
 use Rattle.gob_ledger.specs.State.{State}
 use Rattle.gob_ledger.specs.Turns.{pulls_in, turns_of}
-use Rattle.gob_ledger.specs.Units.{next_of}
+use Rattle.gob_ledger.specs.Units.{UnitsFit, next_of}
+use Rattle.gob_ledger.proofs.Members.{none_in}
 use Rattle.gob_ledger.proofs.OneDamage.{damage_is_one}
 use Rattle.gob_ledger.proofs.OneState.{keeps_one, same_some}
 use Rattle.gob_recovery.specs.Commits.{OnlyBelow}
 use Rattle.gob_recovery.proofs.Damaged.{one_damage}
 use Rattle.gob_recovery.proofs.Spelled.{to_one}
-use Rattle.gob_history.specs.Runs.{run_units, state_or_empty}
-use Rattle.gob_seq.specs.Maps.{ImagesSettleTheSame}
+use Rattle.gob_history.specs.Runs.{done_in, run_units, state_or_empty}
+use Rattle.gob_history.proofs.Fronts.{published_unstaged}
+use Rattle.gob_seq.specs.Maps.{ImagesSettleTheSame, SettlesByName}
 use Rattle.gob_seq.proofs.Trails.{maps_both}
 use Rattle.gob_segments.specs.declared.change.Loaded.{Loaded}
 use Rattle.gob_state.specs.declared.next.Outcome.{Outcome}
-use Rattle.gob_turns.specs.Taken.{FailuresRose}
-use Rattle.gob_run.specs.Answers.{Answer, Completes, Due, FaultCaused, NoPull, PullsAre, PullsAreOf, ReadersOfRun}
-use Rattle.gob_run.specs.Answers.{RunAnswered, ToldFirst, TrailIs}
+use Rattle.gob_turns.specs.Taken.{FailuresRose, HasPulled}
+use Rattle.gob_turns.proofs.Pulled.{pulled_nothing}
+use Rattle.gob_run.specs.Answers.{Answer, Completes, Due, FaultCaused, NoPull, PublishesGiven, PublishesOnly, PullsAre}
+use Rattle.gob_run.specs.Answers.{PullsAreOf, RunAnswered, ToldFirst, TrailIs, groups_by}
 use Rattle.gob_run.specs.Cutting.{CutNot, NoRoom, ShrunkAt, parts_of}
 use Rattle.gob_run.specs.Entry.{Entry, IsBroken, IsFull, IsShrunk, LeftBroken, Refused, SettledTo}
 use Rattle.gob_run.specs.Entry.{broken, full, sequence, shrunk, state}
@@ -38,7 +41,10 @@ use Rattle.gob_run.specs.declared.fault.RunFault.{RunFault}
 use Rattle.gob_run.specs.declared.fault.RunFault.TheVariants.{Damaged, Shrunk, Full, SourceFault, VolumeFault, Memory}
 use Rattle.gob_run.proofs.Counting.{new_count_told}
 use Rattle.gob_run.proofs.Entering.{entering_trail}
+use Rattle.gob_run.proofs.Readers.{published_apart, readers_of_settling}
+use Rattle.gob_run.proofs.Reading.{readers_of_entering}
 use Rattle.gob_run.proofs.Settled.{AllSettle, broken_one, broken_settled, settle_alike, settled_to}
+use Rattle.gob_run.proofs.Wents.{adds_both, went_of}
 
 -- ---- what devices tell
 
@@ -63,32 +69,24 @@ filed R old new both d is = both_there R old.disk new.disk d is both
 -- whatever stopped it
 pub record StopsEarly (job : Job) (old new : World) : Type 0 where
   pub alike : Along (ImagesSettleTheSame job.name) old.disk new.disk
+  pub names : Along (SettlesByName job.name) old.disk new.disk
   pub below : Along (OnlyBelow (under job.name [])) old.disk new.disk
   pub unpulled : NoPull old new
   pub goes_on : GoesOn old new
 
--- a reader may go on reading while the maps are added
-abbrev pub ReadersTold : Job → List ℕ → World → World → Type 0
-ReadersTold job failing old new = (d e : Disk) (s : Supply) (added : List Files) → old.disk ≡ Some d
-    → new.disk ≡ Some e → old.supply ≡ Some s → e.trail ≡ d.trail ++ added
-    → ReadersOfRun job s.held failing d.files added
+-- the maps that it added, each of which settles as the first one does
+early_maps : (job : Job) (old new : World) (d : Disk) → StopsEarly job old new → old.disk ≡ Some d
+    → (e : Disk) × (new.disk ≡ Some e)
+    × Went (λ m added. EachOf (ImagesSettleTheSame job.name m) added × EachOf (SettlesByName job.name m) added) d e
+early_maps job old new d early in_old = went_of
+    (λ m added. EachOf (ImagesSettleTheSame job.name m) added × EachOf (SettlesByName job.name m) added) old.disk
+    new.disk d
+    (adds_both (λ m added. EachOf (ImagesSettleTheSame job.name m) added)
+    (λ m added. EachOf (SettlesByName job.name m) added) old.disk new.disk early.alike early.names) in_old
 
--- that follows of what is said of the maps
-pub readers_told : (job : Job) (failing : List ℕ) (Q : Files → List Files → Type 0) (old new : World)
-    → ((held : Held) (m : Files) (added : List Files) → Q m added → ReadersOfRun job held failing m added)
-    → AddsMaps Q old.disk new.disk → ReadersTold job failing old new
-readers_told job failing Q old new reads a d e s added in_old in_new in_supply trail =
-    let t = filed (Went Q) old new a.told d in_old in
-    let same : t.0 ≡ e = let both : Some t.0 ≡ Some e = sym t.1 ∙ in_new in cc in
-    let whole : d.trail ++ t.2.added ≡ d.trail ++ added =
-    sym t.2.trail ∙ ap (λ (x : Disk). x.trail) same ∙ trail in
-    reads s.held d.files added
-    (subst (Q d.files) (append_cancel_left d.trail t.2.added added whole) t.2.holds)
-
-early_trail : (job : Job) (old new : World) → StopsEarly job old new → ReadersTold job [] old new
-    → WhereTold (TrailIs job []) old new
-early_trail job old new early reads d s in_old in_supply =
-    let t = filed (Went _) old new early.alike.told d in_old in (
+early_trail : (job : Job) (old new : World) → StopsEarly job old new → WhereTold (TrailIs job []) old new
+early_trail job old new early d s in_old in_supply =
+    let t = early_maps job old new d early in_old in (
       t.0,
       s,
       t.1,
@@ -98,8 +96,43 @@ early_trail job old new early reads d s in_old in_supply =
         trail = t.2.trail;
         stands = t.2.stands;
         goes = entering_trail job s.held [] d.files t.2.added
-            (settle_alike job.name d.files t.2.added t.2.holds);
-        reads = reads d t.0 s t.2.added in_old t.1 in_supply t.2.trail;
+            (settle_alike job.name d.files t.2.added t.2.holds.0);
+        reads = readers_of_entering job s.held [] d.files t.2.added
+            (readers_of_settling job.name d.files t.2.added t.2.holds.1);
+      },
+    )
+
+no_units_fit : (parts : Table Marks) → UnitsFit parts []
+unfolding IsDistinct
+no_units_fit parts = record {
+  once = tt;
+  owed = λ u there fresh. none_in u there;
+  fresh = λ part. tt;
+}
+
+-- no unit was given anything, and nothing was published but what was found
+early_published : (job : Job) (old new : World) → StopsEarly job old new → WhereFiled (PublishesGiven job) old new
+early_published job old new early d in_old =
+    let t = early_maps job old new d early in_old in
+    let done = flat_map (done_in job) (groups_by job [] []) in (
+      t.0,
+      t.1,
+      record {
+        added = t.2.added;
+        trail = t.2.trail;
+        stands = t.2.stands;
+        units = [];
+        results = [];
+        fit = λ o entry. no_units_fit (state_or_empty job o).parts;
+        given = [];
+        judged = λ j there good. none_in j there;
+        publishes = λ settled settles. each-map (SettlesByName job.name d.files)
+            (PublishesOnly job [] done d.files settled) t.2.added
+            (λ n by name f published here. ⊎_elim
+            (λ same. inl (sym same ∙ here))
+            (λ same. inr (inl (sym same ∙ here)))
+            (by settled settles name (published_unstaged job.name name published)
+            (published_apart job.name name published))) t.2.holds.1;
       },
     )
 
@@ -138,13 +171,15 @@ none_failed before now later = record { rising = (0, refl); counted = omega (ari
 
 -- all that is said of it
 pub early_answer : (job : Job) (f : RunFault) (old new : World) → StopsEarly job old new
-    → ReadersTold job [] old new → FaultCaused job old new f → Due job old (Err f) → Completes job old new (Err f)
+    → FaultCaused job old new f → Due job old (Err f) → Completes job old new (Err f)
     → RunAnswered job [] (Err f) old new
-early_answer job f old new early reads caused due completes = record {
+early_answer job f old new early caused due completes = record {
   done = tt;
-  trail = early_trail job old new early reads;
+  trail = early_trail job old new early;
+  published = early_published job old new early;
   pulls = early_pulls job old new early.unpulled;
   own_pulls = early_own job old new early;
+  pulled = subst (HasPulled old.supply) (sym early.unpulled) (pulled_nothing old.supply);
   failed = none_failed old.source_faults new.source_faults early.goes_on.source;
   caused = caused;
   due = due;
@@ -235,10 +270,10 @@ entry_completes job Memory old new begins d s in_old in_supply none planned fail
 
 -- settling failed, or nothing could be loaded then
 pub refused_at_entry : (job : Job) (f : RunFault) (old new : World) → StopsEarly job old new
-    → ReadersTold job [] old new → BeginsNot job.name old.disk new.disk old.volume_faults new.volume_faults f
+    → BeginsNot job.name old.disk new.disk old.volume_faults new.volume_faults f
     → RunAnswered job [] (Err f) old new
-refused_at_entry job f old new early reads begins =
-    early_answer job f old new early reads (entry_caused job f old new begins early.unpulled)
+refused_at_entry job f old new early begins =
+    early_answer job f old new early (entry_caused job f old new begins early.unpulled)
     (entry_due job f old new begins) (entry_completes job f old new begins)
 
 -- ---- nothing was cut over what was loaded
@@ -399,10 +434,10 @@ cut_completes job o Memory d s old new entry cut none planned = refl
 
 -- the files were settled and their state was loaded, and then no units could be cut
 pub refused_at_cut : (job : Job) (l : Loaded) (f : RunFault) (old new : World) → StopsEarly job old new
-    → ReadersTold job [] old new → AddsMaps (Finds job.name l) old.disk new.disk
+    → AddsMaps (Finds job.name l) old.disk new.disk
     → CutNot (parts_of l.state) job.limits old.supply old.plan_faults new.plan_faults f
     → RunAnswered job [] (Err f) old new
-refused_at_cut job l f old new early reads found stopped =
+refused_at_cut job l f old new early found stopped =
     let o : Option State = l.state in
     let cut : NothingCut job o old.supply old new f =
     subst (λ (parts : Table Marks). CutNot parts job.limits old.supply old.plan_faults new.plan_faults f)
@@ -412,7 +447,7 @@ refused_at_cut job l f old new early reads found stopped =
     let entry : (d : Disk) → old.disk ≡ Some d → Entry job.name d.files o =
     λ d in_old. let t = filed (Went (Finds job.name l)) old new found.told d in_old in
     found_entry job.name l d t.0 t.2 in
-    early_answer job f old new early reads
+    early_answer job f old new early
     (cut_caused job o f old new (if_known old.disk entry) (found_settled job.name l old new found early.alike)
     early.unpulled cut)
     (record {

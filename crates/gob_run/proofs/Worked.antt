@@ -33,7 +33,7 @@ use Rattle.gob_segments.specs.Loading.{IsLoaded}
 use Rattle.gob_segments.specs.declared.change.Loaded.{Loaded}
 use Rattle.gob_state.specs.Committed.{judged_by, verdicts_in}
 use Rattle.gob_state.specs.declared.next.Outcome.{Outcome}
-use Rattle.gob_turns.specs.Taken.{AllStaged, AreFirstPulls, AreResults, FailuresRose, given_up_in}
+use Rattle.gob_turns.specs.Taken.{AllStaged, AreFirstPulls, AreResults, FailuresRose, HasPulled, given_up_in}
 use Rattle.gob_turns.specs.declared.fault.TurnsFault.{TurnsFault}
 use Rattle.gob_turns.specs.declared.fault.TurnsFault.TheVariants as turns_fault
 use Rattle.gob_commit.specs.Going.{CommitsAre, GoesAlong, GoesToEnd, GoneAlong, GoneToEnd}
@@ -41,12 +41,15 @@ use Rattle.gob_commit.specs.Staged.{HasRules, RunHasStaged}
 use Rattle.gob_commit.specs.declared.rules.CommitRules.{CommitRules}
 use Rattle.gob_commit.specs.declared.rules.Committed.{Committed}
 use Rattle.gob_commit.proofs.Doing.{nothing_first}
-use Rattle.gob_run.specs.Answers.{OutcomeFits}
+use Rattle.gob_turns.proofs.Pulled.{pulled_nothing}
+use Rattle.gob_run.specs.Answers.{AreGivenBy, OutcomeFits, groups_by}
 use Rattle.gob_run.specs.Faults.{run_of_commit, run_of_turns}
-use Rattle.gob_run.specs.Working.{OverLoaded, WentAlong, WentToEnd, WorkStops, Worked}
-use Rattle.gob_run.specs.Working.{groups_over}
+use Rattle.gob_run.specs.Working.{FiledAlong, FiledToEnd, OverFiled, OverLoaded, WentAlong, WentOver, WentOverAll}
+use Rattle.gob_run.specs.Working.{WentToEnd, WorkStops, Worked, groups_over}
 use Rattle.gob_run.specs.World.{GoesOn, World}
 use Rattle.gob_run.specs.declared.fault.RunFault.TheVariants.{Memory}
+use Rattle.gob_run.proofs.Filing.{all_staged_given, are_given_by, none_given}
+use Rattle.gob_run.proofs.Given.{AllGivenIn}
 use Rattle.gob_run.proofs.Staging.{run_staged}
 
 -- ---- maps over what was loaded
@@ -61,11 +64,10 @@ abbrev Over : Job → Loaded → (Files → List Files → Type 0) → Files →
 Over job l P m added =
     IsSettled job.name m → (k : Option Kept) → KeepsAs job.name m k → IsLoaded k l → P m added
 
-over_loaded : (job : Job) (l : Loaded) (old new : World) (P : Held → Files → List Files → Type 0)
-    → ((s : Supply) → old.supply ≡ Some s → AddsMaps (Over job l (P s.held)) old.disk new.disk)
-    → OverLoaded job l old new P
-over_loaded job l old new P each = λ d s is_disk is_supply settled k keeps loaded.
-    let t = told_after (Went (Over job l (P s.held))) old.disk new.disk d is_disk (each s is_supply).told in (
+over_filed : (job : Job) (l : Loaded) (old new : World) (P : Files → List Files → Type 0)
+    → AddsMaps (Over job l P) old.disk new.disk → OverFiled job l old new P
+over_filed job l old new P adds = λ d is_disk settled k keeps loaded.
+    let t = told_after (Went (Over job l P)) old.disk new.disk d is_disk adds.told in (
       t.0,
       t.1,
       record {
@@ -75,6 +77,11 @@ over_loaded job l old new P each = λ d s is_disk is_supply settled k keeps load
         holds = t.2.holds settled k keeps loaded;
       },
     )
+
+over_loaded : (job : Job) (l : Loaded) (old new : World) (P : Held → Files → List Files → Type 0)
+    → ((s : Supply) → old.supply ≡ Some s → AddsMaps (Over job l (P s.held)) old.disk new.disk)
+    → OverLoaded job l old new P
+over_loaded job l old new P each = λ s is_supply. over_filed job l old new (P s.held) (each s is_supply)
 
 -- what holds of the map that stands holds of the last one
 maps_end : (Q : Files → List Files → Type 0) (R : Files → Type 0) (old new : Option Disk) → AddsMaps Q old new
@@ -107,15 +114,24 @@ none_gone job held o groups m settled stores = record {
   reads = tt;
 }
 
-turns_alone : (job : Job) (held : Held) (l : Loaded) (units : List WorkUnit) (failing : List ℕ) (m : Files)
-    (turns : List Files) → EachOf (StagedOver job.name m) turns
-    → Over job l (WentAlong job held l.state units failing) m turns
-turns_alone job held l units failing m turns each = λ settled k keeps loaded. record {
+turns_alone : (job : Job) (held : Held) (l : Loaded) (groups : List (List Judged)) (m : Files) (turns : List Files)
+    → EachOf (StagedOver job.name m) turns → Over job l (WentOver job held l.state groups) m turns
+turns_alone job held l groups m turns each = λ settled k keeps loaded. record {
   turns = turns;
   commits = [];
   whole = sym (append-nil turns);
   over = each;
-  gone = none_gone job held l.state (groups_over job held units failing) m settled (k, keeps, sym loaded.state);
+  gone = none_gone job held l.state groups m settled (k, keeps, sym loaded.state);
+}
+
+-- no unit has a result
+turns_filed : (job : Job) (l : Loaded) (units : List WorkUnit) (m : Files) (turns : List Files)
+    → EachOf (StagedOver job.name m) turns → Over job l (FiledAlong job l.state units) m turns
+turns_filed job l units m turns each = λ settled k keeps loaded. record {
+  results = [];
+  given = [];
+  judged = none_given job [] units;
+  went = turns_alone job [] l (groups_by job units []) m turns each settled k keeps loaded;
 }
 
 -- ---- the commits
@@ -136,12 +152,15 @@ staged_run job held l units results ranges m turns staged = λ settled k keeps l
     run_staged job held l units results m (last_map m turns) k settled keeps loaded
     (each-last (StagedOver job.name m) m turns (λ name out. refl) staged.0) staged.1 ranges
 
+-- the groups of units with these verdicts
+abbrev groups_with : Job → List WorkUnit → List Verdict → List (List Judged)
+groups_with job units verdicts = groups_of job.scope (zip units verdicts)
+
 commits_along : (job : Job) (held : Held) (rules : CommitRules) (l : Loaded) (units : List WorkUnit)
-    (results : List UnitResult) (failing : List ℕ) → HasRules job rules → HaveRanges units
-    → verdicts_in results ≡ verdicts_of job held units failing
-    → Join (Staged job held units results) (GoesAlong rules l units results)
-    (Over job l (WentAlong job held l.state units failing))
-commits_along job held rules l units results failing has ranges same m turns commits staged goes =
+    (results : List UnitResult) (verdicts : List Verdict) → HasRules job rules → HaveRanges units
+    → verdicts_in results ≡ verdicts → Join (Staged job held units results) (GoesAlong rules l units results)
+    (Over job l (WentOver job held l.state (groups_with job units verdicts)))
+commits_along job held rules l units results verdicts has ranges same m turns commits staged goes =
     λ settled k keeps loaded.
     let run = staged_run job held l units results ranges m turns staged settled k keeps loaded in
     record {
@@ -150,20 +169,19 @@ commits_along job held rules l units results failing has ranges same m turns com
       whole = refl;
       over = staged.0;
       gone = subst
-          (λ (vs : List Verdict). GoneAlong job held l.state (groups_of job.scope (zip units vs)) m commits) same
+          (λ (vs : List Verdict). GoneAlong job held l.state (groups_with job units vs) m commits) same
           (goes job held m has run);
     }
 
 commits_to_end : (job : Job) (held : Held) (rules : CommitRules) (l : Loaded) (units : List WorkUnit)
-    (results : List UnitResult) (failing : List ℕ) → HasRules job rules → HaveRanges units
-    → verdicts_in results ≡ verdicts_of job held units failing
-    → Join (Staged job held units results) (GoesToEnd rules l units results)
-    (Over job l (WentToEnd job held l.state units failing))
-commits_to_end job held rules l units results failing has ranges same m turns commits staged goes =
+    (results : List UnitResult) (verdicts : List Verdict) → HasRules job rules → HaveRanges units
+    → verdicts_in results ≡ verdicts → Join (Staged job held units results) (GoesToEnd rules l units results)
+    (Over job l (WentOverAll job held l.state (groups_with job units verdicts)))
+commits_to_end job held rules l units results verdicts has ranges same m turns commits staged goes =
     λ settled k keeps loaded.
     let run = staged_run job held l units results ranges m turns staged settled k keeps loaded in
     let gone = subst
-    (λ (vs : List Verdict). GoneToEnd job held l.state (groups_of job.scope (zip units vs)) m commits
+    (λ (vs : List Verdict). GoneToEnd job held l.state (groups_with job units vs) m commits
     (last_map (last_map m turns) commits)) same (goes job held m has run) in
     record {
       turns = turns;
@@ -171,8 +189,36 @@ commits_to_end job held rules l units results failing has ranges same m turns co
       whole = refl;
       over = staged.0;
       gone = subst
-          (λ (last : Files). GoneToEnd job held l.state (groups_over job held units failing) m commits last)
+          (λ (last : Files). GoneToEnd job held l.state (groups_with job units verdicts) m commits last)
           (sym (last-append m turns commits)) gone;
+    }
+
+-- the same of the bytes that the units were given
+filed_along : (job : Job) (held : Held) (rules : CommitRules) (l : Loaded) (units : List WorkUnit)
+    (results : List UnitResult) → HasRules job rules → HaveRanges units
+    → AreGivenBy job held (judged_by units results)
+    → Join (Staged job held units results) (GoesAlong rules l units results)
+    (Over job l (FiledAlong job l.state units))
+filed_along job held rules l units results has ranges given m turns commits staged goes =
+    λ settled k keeps loaded. record {
+      results = results;
+      given = held;
+      judged = given;
+      went = commits_along job held rules l units results (verdicts_in results) has ranges refl m turns commits staged
+          goes settled k keeps loaded;
+    }
+
+filed_to_end : (job : Job) (held : Held) (rules : CommitRules) (l : Loaded) (units : List WorkUnit)
+    (results : List UnitResult) → HasRules job rules → HaveRanges units
+    → AreGivenBy job held (judged_by units results)
+    → Join (Staged job held units results) (GoesToEnd rules l units results)
+    (Over job l (FiledToEnd job l.state units results))
+filed_to_end job held rules l units results has ranges given m turns commits staged goes =
+    λ settled k keeps loaded. record {
+      given = held;
+      judged = given;
+      went = commits_to_end job held rules l units results (verdicts_in results) has ranges refl m turns commits staged
+          goes settled k keeps loaded;
     }
 
 -- ---- what the calls say
@@ -180,6 +226,7 @@ commits_to_end job held rules l units results failing has ranges same m turns co
 -- what turns say, whatever they answer
 pub record TurnsSay (job : Job) (cut : Cut) (failing : List ℕ) (old new : World) : Type 0 where
   pub pulls : (s : Supply) → old.supply ≡ Some s → AreFirstPulls job s cut.units failing new.supply
+  pub pulled : HasPulled old.supply new.supply
   pub maps : Along (OnlyBelow (staging job.name)) old.disk new.disk
   pub failed : FailuresRose failing old.source_faults new.source_faults
   pub planned : new.plan_faults ≡ old.plan_faults
@@ -191,6 +238,7 @@ pub record TurnsEnd (job : Job) (cut : Cut) (failing : List ℕ) (results : List
   pub say : TurnsSay job cut failing old new
   pub whole : (s : Supply) → old.supply ≡ Some s
       → AreResults job s cut.units failing results new.supply new.disk
+  pub given : (held : Held) × AllGivenIn job held cut.units results new.disk
   pub gave_up : RoseBy (given_up_in results * (job.max_retries + 1)) old.source_faults new.source_faults
 
 -- the volume afterwards
@@ -215,13 +263,16 @@ stopped_at_first job l cut w = record {
   done = tt;
   along = over_loaded job l w w (λ held. WentAlong job held l.state cut.units []) (λ s is.
       maps_nothing (Over job l (WentAlong job s.held l.state cut.units []))
-      (λ m. turns_alone job s.held l cut.units [] m [] tt) w.disk);
+      (λ m. turns_alone job s.held l (groups_over job s.held cut.units []) m [] tt) w.disk);
+  filed = over_filed job l w w (FiledAlong job l.state cut.units)
+      (maps_nothing (Over job l (FiledAlong job l.state cut.units)) (λ m. turns_filed job l cut.units m [] tt) w.disk);
   pulls = λ s is. record {
     pulls = [];
     rest = pulls_in (turns_of job s.held cut.units []);
     supply = is ∙ ap (λ t. Some t) (sym (no_pulls s));
     turns = refl;
   };
+  pulled = pulled_nothing w.supply;
   failed = record { rising = (0, refl); counted = omega arith };
   stopped = tt;
   planned = refl;
@@ -242,8 +293,12 @@ pub stopped_in_turns : (job : Job) (l : Loaded) (cut : Cut) (failing : List ℕ)
 stopped_in_turns job l cut failing fault old new say rose = record {
   done = tt;
   along = over_loaded job l old new (λ held. WentAlong job held l.state cut.units failing) (λ s is.
-      maps_map (λ m turns each. turns_alone job s.held l cut.units failing m turns each) say.maps);
+      maps_map (λ m turns each. turns_alone job s.held l (groups_over job s.held cut.units failing) m turns each)
+      say.maps);
+  filed = over_filed job l old new (FiledAlong job l.state cut.units)
+      (maps_map (λ m turns each. turns_filed job l cut.units m turns each) say.maps);
   pulls = say.pulls;
+  pulled = say.pulled;
   failed = say.failed;
   stopped = turns_stop fault old new rose;
   planned = say.planned;
@@ -255,11 +310,18 @@ stopped_in_turns job l cut failing fault old new say rose = record {
 
 -- what was staged for them
 staged_maps : (job : Job) (cut : Cut) (failing : List ℕ) (results : List UnitResult) (old mid : World)
-    → TurnsEnd job cut failing results old mid → (s : Supply) → old.supply ≡ Some s
-    → AddsMaps (Staged job s.held cut.units results) old.disk mid.disk
-staged_maps job cut failing results old mid end s is =
-    maps_end (λ m turns. EachOf (StagedOver job.name m) turns) (AllStaged job s.held cut.units results)
-    old.disk mid.disk end.say.maps (end.whole s is).staged
+    → TurnsEnd job cut failing results old mid → (held : Held)
+    → IfSome mid.disk (λ d. AllStaged job held cut.units results d.files)
+    → AddsMaps (Staged job held cut.units results) old.disk mid.disk
+staged_maps job cut failing results old mid end held staged =
+    maps_end (λ m turns. EachOf (StagedOver job.name m) turns) (AllStaged job held cut.units results)
+    old.disk mid.disk end.say.maps staged
+
+given_maps : (job : Job) (cut : Cut) (failing : List ℕ) (results : List UnitResult) (old mid : World)
+    → (end : TurnsEnd job cut failing results old mid)
+    → AddsMaps (Staged job end.given.0 cut.units results) old.disk mid.disk
+given_maps job cut failing results old mid end = staged_maps job cut failing results old mid end end.given.0
+    (all_staged_given job end.given.0 cut.units results mid.disk end.given.1)
 
 goes_on_then : (old mid : World) (disk : Option Disk) (faults : ℕ) → GoesOn old mid → mid.volume_faults ≤ faults
     → GoesOn old (with_volume mid disk faults)
@@ -282,8 +344,20 @@ along_both : (job : Job) (l : Loaded) (cut : Cut) (failing : List ℕ) (results 
 along_both job l cut failing results rules old mid disk faults end has ranges say =
     over_loaded job l old (with_volume mid disk faults) (λ held. WentAlong job held l.state cut.units failing)
     (λ s is. maps_then
-    (commits_along job s.held rules l cut.units results failing has ranges (end.whole s is).verdicts)
-    (staged_maps job cut failing results old mid end s is) say.along)
+    (commits_along job s.held rules l cut.units results (verdicts_of job s.held cut.units failing) has ranges
+    (end.whole s is).verdicts)
+    (staged_maps job cut failing results old mid end s.held (end.whole s is).staged) say.along)
+
+filed_both : (job : Job) (l : Loaded) (cut : Cut) (failing : List ℕ) (results : List UnitResult) (rules : CommitRules)
+    (old mid : World) (disk : Option Disk) (faults : ℕ) → TurnsEnd job cut failing results old mid → HasRules job rules
+    → HaveRanges cut.units → CommitsSay job rules l cut.units results mid disk faults
+    → OverFiled job l old (with_volume mid disk faults) (FiledAlong job l.state cut.units)
+filed_both job l cut failing results rules old mid disk faults end has ranges say =
+    over_filed job l old (with_volume mid disk faults) (FiledAlong job l.state cut.units)
+    (maps_then
+    (filed_along job end.given.0 rules l cut.units results has ranges
+    (are_given_by job end.given.0 cut.units results mid.disk end.given.1))
+    (given_maps job cut failing results old mid end) say.along)
 
 to_end_both : (job : Job) (l : Loaded) (cut : Cut) (failing : List ℕ) (results : List UnitResult)
     (rules : CommitRules) (old mid : World) (disk : Option Disk) (faults : ℕ)
@@ -293,8 +367,21 @@ to_end_both : (job : Job) (l : Loaded) (cut : Cut) (failing : List ℕ) (results
 to_end_both job l cut failing results rules old mid disk faults end has ranges goes =
     over_loaded job l old (with_volume mid disk faults) (λ held. WentToEnd job held l.state cut.units failing)
     (λ s is. maps_then
-    (commits_to_end job s.held rules l cut.units results failing has ranges (end.whole s is).verdicts)
-    (staged_maps job cut failing results old mid end s is) goes)
+    (commits_to_end job s.held rules l cut.units results (verdicts_of job s.held cut.units failing) has ranges
+    (end.whole s is).verdicts)
+    (staged_maps job cut failing results old mid end s.held (end.whole s is).staged) goes)
+
+filed_end_both : (job : Job) (l : Loaded) (cut : Cut) (failing : List ℕ) (results : List UnitResult)
+    (rules : CommitRules) (old mid : World) (disk : Option Disk) (faults : ℕ)
+    → TurnsEnd job cut failing results old mid → HasRules job rules → HaveRanges cut.units
+    → AddsMaps (GoesToEnd rules l cut.units results) mid.disk disk
+    → OverFiled job l old (with_volume mid disk faults) (FiledToEnd job l.state cut.units results)
+filed_end_both job l cut failing results rules old mid disk faults end has ranges goes =
+    over_filed job l old (with_volume mid disk faults) (FiledToEnd job l.state cut.units results)
+    (maps_then
+    (filed_to_end job end.given.0 rules l cut.units results has ranges
+    (are_given_by job end.given.0 cut.units results mid.disk end.given.1))
+    (given_maps job cut failing results old mid end) goes)
 
 commits_stop : (fault : CommitFault) (old mid : World) (disk : Option Disk) (faults : ℕ) → GoesOn old mid
     → RoseIfFailed mid.volume_faults faults fault → WorkStops old (with_volume mid disk faults) (run_of_commit fault)
@@ -310,7 +397,9 @@ pub stopped_in_commits : (job : Job) (l : Loaded) (cut : Cut) (failing : List �
 stopped_in_commits job l cut failing results rules fault old mid disk faults end has ranges say rose = record {
   done = tt;
   along = along_both job l cut failing results rules old mid disk faults end has ranges say;
+  filed = filed_both job l cut failing results rules old mid disk faults end has ranges say;
   pulls = end.say.pulls;
+  pulled = end.say.pulled;
   failed = end.say.failed;
   stopped = commits_stop fault old mid disk faults end.say.goes_on rose;
   planned = end.say.planned;
@@ -354,10 +443,13 @@ work_done job l cut failing results rules c old mid disk faults end has ranges c
     fits = outcome_fits job l cut results rules c has counted are proper;
     told = λ s is. let r = end.whole s is in record { pulls = r.pulls; verdicts = r.verdicts };
     left = to_end_both job l cut failing results rules old mid disk faults end has ranges goes;
+    filed = filed_end_both job l cut failing results rules old mid disk faults end has ranges goes;
     gave_up = end.gave_up;
   };
   along = along_both job l cut failing results rules old mid disk faults end has ranges say;
+  filed = filed_both job l cut failing results rules old mid disk faults end has ranges say;
   pulls = end.say.pulls;
+  pulled = end.say.pulled;
   failed = end.say.failed;
   stopped = tt;
   planned = end.say.planned;

@@ -1,30 +1,36 @@
 -- What a run answers, exactly where, and what it leaves.
-use Rattle.std.specs.Prelude.{◌≡◌, ◌⊎◌, ℕ, ◌+◌, ◌*◌, List, [], ◌++◌, map, length, IfErr, IfOk, IfSome}
+use Rattle.std.specs.Prelude.{◌≡◌, ◌⊎◌, ℕ, ◌+◌, ◌*◌, ◌-◌, true, List, [], ◌++◌, map, length, IfErr, IfOk, IfSome}
 use Rattle.std.specs.declared.option.Option.{Option}
 use Rattle.std.specs.declared.option.Option.TheVariants.{Some}
 use Rattle.std.specs.declared.result.Result.{Result}
 use Rattle.std.specs.declared.result.Result.TheVariants.{Ok, Err}
-use Rattle.gob_bytes.specs.Paths.{under}
+use Rattle.std.specs.List.{Contains, flat_map}
+use Rattle.gob_bytes.specs.Paths.{is_published, under}
 use Rattle.gob_bytes.specs.Tables.{names_of}
 use Rattle.gob_device.specs.Causes.{Rose, RoseBy}
-use Rattle.gob_device.specs.Disk.{Along, Disk, EachOf, Files, last_map}
+use Rattle.gob_device.specs.Disk.{Along, Disk, EachOf, File, Files, clean, contents_at, last_map}
 use Rattle.gob_device.specs.Supply.{Held, Pull, Supply, with_pulls}
+use Rattle.gob_plan.specs.declared.units.Unit.{Unit as WorkUnit}
+use Rattle.gob_plan.specs.declared.units.UnitResult.{UnitResult}
 use Rattle.gob_meaning.specs.Job.{Job}
+use Rattle.gob_meaning.specs.Results.{verdict_of}
 use Rattle.gob_ledger.specs.Archive.{Agrees}
+use Rattle.gob_ledger.specs.Expected.{IsPublished, bytes_in}
 use Rattle.gob_ledger.specs.Groups.{groups_of, is_committed}
+use Rattle.gob_ledger.specs.Next.{Judged, is_good}
 use Rattle.gob_ledger.specs.Spelling.{Proper}
 use Rattle.gob_ledger.specs.State.{State}
 use Rattle.gob_ledger.specs.Turns.{pulls_in, turns_of}
-use Rattle.gob_ledger.specs.Units.{too_long}
+use Rattle.gob_ledger.specs.Units.{UnitsFit, span_of, too_long}
 use Rattle.gob_recovery.specs.Commits.{OnlyBelow}
-use Rattle.gob_recovery.specs.Settle.{IsSettled}
+use Rattle.gob_recovery.specs.Settle.{IsSettled, Settles}
 use Rattle.gob_history.specs.Laws.{Lasting}
-use Rattle.gob_history.specs.Runs.{Ran, Readable, TrailOfRun, after_groups, run_units, run_verdicts, state_after}
-use Rattle.gob_history.specs.Runs.{state_or_empty}
+use Rattle.gob_history.specs.Runs.{GroupsLeft, Ran, Readable, StoredChange, TrailOfRun, after_groups, done_in, run_units}
+use Rattle.gob_history.specs.Runs.{run_verdicts, state_after, state_or_empty}
 use Rattle.gob_history.specs.Sound.{AllRecoverTo}
 use Rattle.gob_state.specs.Committed.{judged_by, verdicts_in}
 use Rattle.gob_state.specs.declared.next.Outcome.{Outcome}
-use Rattle.gob_turns.specs.Taken.{FailuresRose, given_up_in}
+use Rattle.gob_turns.specs.Taken.{FailuresRose, HasPulled, given_up_in}
 use Rattle.gob_run.specs.Entry.{Entry, IsFull, IsShrunk, LeftBroken, IsBroken, Refused, SettledTo, TooMany}
 use Rattle.gob_run.specs.World.{GoesOn, WhereFiled, WhereSupplied, WhereTold, World}
 use Rattle.gob_run.specs.declared.fault.RunFault.{RunFault}
@@ -32,6 +38,20 @@ use Rattle.gob_run.specs.declared.fault.RunFault.TheVariants.{Damaged, Shrunk, F
 
 abbrev pub Answer : Type 0
 Answer = Result Outcome RunFault
+
+-- the groups of these units, with their results, that are committed one after the other
+abbrev pub groups_by : Job → List WorkUnit → List UnitResult → List (List Judged)
+groups_by job units results = groups_of job.scope (judged_by units results)
+
+-- ---- what units were given
+
+-- a good unit was given all bytes of its range, and its verdict is theirs
+pub record IsGivenBy (job : Job) (held : Held) (j : Judged) : Type 0 where
+  pub whole : length (bytes_in held j.0.part (span_of j.0)) ≡ j.0.hi - j.0.lo
+  pub verdict : j.1 ≡ verdict_of job.plan j.0 (bytes_in held j.0.part (span_of j.0))
+
+abbrev pub AreGivenBy : Job → Held → List Judged → Type 0
+AreGivenBy job held judged = (j : Judged) → Contains judged j → is_good j.1 ≡ true → IsGivenBy job held j
 
 -- ---- a run that was answered
 
@@ -42,7 +62,7 @@ pub record OutcomeFits (job : Job) (o : Option State) (out : Outcome) : Type 0 w
   pub committed : let all = judged_by out.units out.results in
       out.committed ≡ map (is_committed job.scope job.policy all) all
   pub after : out.after
-      ≡ state_or_empty job (after_groups job o (groups_of job.scope (judged_by out.units out.results)))
+      ≡ state_or_empty job (after_groups job o (groups_by job out.units out.results))
   pub proper : Proper out.after
 
 -- over a source that tells: the units are those of what it holds and of the state that was found, their verdicts are
@@ -61,14 +81,26 @@ pub record RunIsLeft (job : Job) (failing : List ℕ) (o : Option State) (out : 
   pub ran : Ran job s.held entry.settled o failing out.units (verdicts_in out.results) e.files
   pub lasting : Lasting entry.settled e.files
 
--- the run found this state, and did what it has to do then
+-- over a volume that tells, whatever the source is: the same of the bytes that its good units were given
+pub record RunIsFiled (job : Job) (o : Option State) (out : Outcome) (d e : Disk) : Type 0 where
+  pub entry : Entry job.name d.files o
+  pub settled : IsSettled job.name e.files
+  pub given : Held
+  pub judged : AreGivenBy job given (judged_by out.units out.results)
+  pub left : GroupsLeft job given entry.settled o (groups_by job out.units out.results) e.files
+  pub change : StoredChange job (groups_by job out.units out.results) entry.settled e.files
+  pub lasting : Lasting entry.settled e.files
+
+-- the run found this state, and did what it has to do then; without a unit it has only settled the files
 pub record RunIsDone (job : Job) (failing : List ℕ) (out : Outcome) (old new : World) : Type 0 where
   pub found : Option State
   pub entry : IfSome old.disk (λ d. Entry job.name d.files found)
   pub fits : OutcomeFits job found out
   pub told : WhereSupplied (RunIsTold job failing found out) old new
   pub left : WhereTold (RunIsLeft job failing found out) old new
+  pub filed : WhereFiled (RunIsFiled job found out) old new
   pub gave_up : RoseBy (given_up_in out.results * (job.max_retries + 1)) old.source_faults new.source_faults
+  pub idle : out.units ≡ [] → WhereFiled (SettledTo job.name) old new
 
 -- ---- whatever is answered
 
@@ -106,6 +138,32 @@ pub record PullsAreOf (job : Job) (failing : List ℕ) (d : Disk) (s : Supply) (
   pub made : t ≡ with_pulls pulls s
   pub front : (o : Option State) → Entry job.name d.files o → (rest : List Pull)
       × (pulls_in (turns_of job s.held (run_units job s.held o) failing) ≡ pulls ++ rest)
+
+-- a published file is one of the map that was found or of what that settles to, or it is clean, and of a content that
+-- stood under its name there or that the bytes given to these units make
+abbrev pub MayBePublished : Job → Held → List Judged → Files → Files → List ℕ → File → Type 0
+MayBePublished job given done found settled name f =
+    (found name ≡ Some f) ⊎ (settled name ≡ Some f)
+    ⊎ ((content : List ℕ) × (f ≡ clean content)
+    × ((contents_at settled name ≡ Some content) ⊎ IsPublished job.name job.plan given done name content))
+
+abbrev pub PublishesOnly : Job → Held → List Judged → Files → Files → Files → Type 0
+PublishesOnly job given done found settled m = (name : List ℕ) (f : File) → is_published job.name name ≡ true
+    → m name ≡ Some f → MayBePublished job given done found settled name f
+
+-- over a volume that tells, whatever the source is: nothing is published in any map but what was found, and what the
+-- bytes make that good units were given, of units that fit the state that was found
+pub record PublishesGiven (job : Job) (d e : Disk) : Type 0 where
+  pub added : List Files
+  pub trail : e.trail ≡ d.trail ++ added
+  pub stands : e.files ≡ last_map d.files added
+  pub units : List WorkUnit
+  pub results : List UnitResult
+  pub fit : (o : Option State) → Entry job.name d.files o → UnitsFit (state_or_empty job o).parts units
+  pub given : Held
+  pub judged : AreGivenBy job given (judged_by units results)
+  pub publishes : (settled : Files) → Settles job.name d.files settled
+      → EachOf (PublishesOnly job given (flat_map (done_in job) (groups_by job units results)) d.files settled) added
 
 -- no pull was made
 abbrev pub NoPull : World → World → Type 0
@@ -155,8 +213,10 @@ Completes job old new a = (d : Disk) (s : Supply) → old.disk ≡ Some d → ol
 pub record RunAnswered (job : Job) (failing : List ℕ) (a : Answer) (old new : World) : Type 0 where
   pub done : IfOk a (λ out. RunIsDone job failing out old new)
   pub trail : WhereTold (TrailIs job failing) old new
+  pub published : WhereFiled (PublishesGiven job) old new
   pub pulls : WhereSupplied (PullsAre job failing) old new
   pub own_pulls : WhereTold (PullsAreOf job failing) old new
+  pub pulled : HasPulled old.supply new.supply
   pub failed : FailuresRose failing old.source_faults new.source_faults
   pub caused : IfErr a (FaultCaused job old new)
   pub due : Due job old a

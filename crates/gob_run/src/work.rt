@@ -8,15 +8,15 @@ ghost use Rattle.gob_ledger.specs.Spelling.{IsKeptPipeline};
 ghost use Rattle.gob_recovery.specs.Sequence.{is_file_name};
 ghost use Rattle.gob_segments.specs.Loading.{LoadedFits};
 ghost use Rattle.gob_run.specs.Cutting.{CutFits, parts_of};
-ghost use Rattle.gob_run.specs.Working.{Worked};
+ghost use Rattle.gob_run.specs.Working.{HasNothing, Worked};
 
 use crate::RunFault;
-use gob_commit::{CommitRules, commit_groups};
+use gob_commit::{CommitRules, commit_groups, state_or_empty};
 use gob_cut::Cut;
 use gob_io::Source;
 use gob_job::Job;
 use gob_pipeline::Pipeline;
-use gob_plan::{List, NoMemory};
+use gob_plan::{List, NoMemory, Text};
 use gob_segments::Loaded;
 use gob_state::Outcome;
 use gob_task::TaskRules;
@@ -24,8 +24,71 @@ use gob_turns::take_turns;
 use gob_volume::Volume;
 use std::alloc::Global;
 
-/// Gives the units their turns, and commits what the policy allows, group by group.
+/// Gives the units their turns, and commits what the policy allows, group by group. Where there is no unit nothing is
+/// changed.
 pub(crate) fn work_on<S: Source, V: Volume>(
+    alloc: Global,
+    job: &Job,
+    source: &mut S,
+    volume: &mut V,
+    failed: &mut List<u128>,
+    loaded: Loaded,
+    cut: Cut,
+) -> Result<Outcome, RunFault>
+    requires right { IsJob job.now.name (job_from job.now) }
+    requires named { is_file_name job.now.name ≡ true }
+    requires none { failed.old ≡ [] }
+    requires loaded { LoadedFits loaded }
+    requires cut { CutFits (parts_of loaded.state) job.now.limits (S.supply source.old) cut }
+    requires closed { IfSome (V.disk volume.old) (λ d. d.files (sequence_name job.now.name) ≡ None) }
+    ensures worked { Worked (job_from job.now) failed.new loaded cut result
+        (record {
+          supply = S.supply source.old;
+          source_faults = S.faults source.old;
+          plan_faults = S.plan_faults source.old;
+          disk = V.disk volume.old;
+          volume_faults = V.faults volume.old;
+        })
+        (record {
+          supply = S.supply source.new;
+          source_faults = S.faults source.new;
+          plan_faults = S.plan_faults source.new;
+          disk = V.disk volume.new;
+          volume_faults = V.faults volume.new;
+        }) }
+    ensures idle { IfOk result (λ out. out.units ≡ [] → V.disk volume.new ≡ V.disk volume.old) }
+{
+    if cut.units.is_empty() {
+        let outcome = nothing_to_do(alloc, job, loaded, cut.too_long)?;
+        return Ok(outcome);
+    }
+    let outcome = turn_and_commit(alloc, job, source, volume, failed, loaded, cut)?;
+    Ok(outcome)
+}
+
+// What a run without a unit has done.
+fn nothing_to_do(
+    alloc: Global,
+    job: &Job,
+    loaded: Loaded,
+    too_long: List<Text>,
+) -> Result<Outcome, NoMemory>
+    requires right { IsJob job.now.name (job_from job.now) }
+    requires loaded { LoadedFits loaded }
+    ensures { IfOk result (HasNothing (job_from job.now) loaded too_long) }
+{
+    let after = state_or_empty(alloc, job.plan.branches.len() as u32, loaded)?;
+    Ok(Outcome {
+        units: List::new(alloc),
+        results: List::new(alloc),
+        too_long,
+        after,
+        committed: List::new(alloc),
+    })
+}
+
+// The same of any units.
+fn turn_and_commit<S: Source, V: Volume>(
     alloc: Global,
     job: &Job,
     source: &mut S,

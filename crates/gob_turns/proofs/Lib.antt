@@ -3,6 +3,7 @@ pub mod Left
 pub mod Turned
 pub mod Places
 pub mod Picking
+pub mod Pulled
 pub mod Stays
 pub mod Going
 pub mod Ways

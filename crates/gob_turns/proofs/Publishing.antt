@@ -13,6 +13,7 @@ use Rattle.gob_plan.specs.declared.units.UnitResult.TheVariants as unit_result
 use Rattle.gob_meaning.specs.Fold.{deliveries_of, sent_to, unit_fold}
 use Rattle.gob_meaning.specs.Items.{Target}
 use Rattle.gob_meaning.specs.Job.{Job}
+use Rattle.gob_meaning.specs.Results.{verdict_of}
 use Rattle.gob_ledger.specs.Expected.{IsPublished, bytes_in}
 use Rattle.gob_ledger.specs.Next.{Judged, is_good}
 use Rattle.gob_ledger.specs.Turns.{pulls_in, turns_of}
@@ -27,7 +28,7 @@ use Rattle.gob_task.specs.Turn.{Devices, TurnRulesValue}
 use Rattle.gob_turns.specs.declared.progress.Progress.{Progress}
 use Rattle.gob_turns.specs.Asked.{AreHeld, IsWorkedBy}
 use Rattle.gob_turns.specs.Standing.{HasResult, IsGoodUnit, results_in}
-use Rattle.gob_turns.specs.Taken.{AllStaged, AreResults, pairs_in}
+use Rattle.gob_turns.specs.Taken.{AllGiven, AllStaged, AreResults, IsGiven, pairs_in}
 use Rattle.gob_turns.specs.Underway.{AreUnderway}
 use Rattle.gob_turns.proofs.Ending.{AllTold, HaveEnded, all_told}
 
@@ -41,26 +42,19 @@ pub good_result : (rules : TurnRulesValue) (u : WorkUnit) (i : ℕ) (supply : Op
 good_result rules u i supply disk (unit_result.Good n ws files) is good = is
 good_result rules u i supply disk (unit_result.Failed c) is good = absurd (let no : false ≡ true = good in cc)
 
--- what is known of a good unit in a map
-record IsStagedIn (rules : TurnRulesValue) (u : WorkUnit) (i : ℕ) (r : UnitResult) (held : Held)
-    (supply : Option Supply)
-    (m : Files) : Type 0 where
-  unit : IsGoodUnit rules u i r supply None
-  same : unit.bytes ≡ bytes_from held u.part u.lo (u.hi - u.lo)
-  hold : (f : StagedFile) (t : Target) → Contains (staged_in r) f → sent_to t (unit_sends rules.plan u unit.bytes) ≢ []
-      → f.to ≡ under rules.job (name_in rules.plan u t)
-      → m f.from ≡ Some (clean (sent_to t (unit_sends rules.plan u unit.bytes)))
-
-staged_for : (rules : TurnRulesValue) (job : Job) (held : Held) (u : WorkUnit) (i : ℕ) (r : UnitResult)
-    (supply : Option Supply) (m : Files) → job.name ≡ rules.job → job.plan ≡ rules.plan
-    → IsStagedIn rules u i r held supply m → StagedFor job held ((u, verdict_in r) ∷ []) m (pairs_in r)
-staged_for rules job held u i r supply m name plan staged = record { made = made; all = all }
+-- where a unit has the bytes that it was given, its files are staged for what it makes
+stages : (rules : TurnRulesValue) (job : Job) (held : Held) (u : WorkUnit) (i : ℕ) (r : UnitResult)
+    (supply : Option Supply) (disk : Option Disk) (m : Files) → job.name ≡ rules.job → job.plan ≡ rules.plan
+    → (unit : IsGoodUnit rules u i r supply disk) → unit.bytes ≡ bytes_in held u.part (span_of u)
+    → HoldCleanly rules.plan u rules.job (unit_sends rules.plan u unit.bytes) (staged_in r) m
+    → StagedFor job held ((u, verdict_in r) ∷ []) m (pairs_in r)
+stages rules job held u i r supply disk m name plan unit same holds = record { made = made; all = all }
   where
     j : Judged
     j = (u, verdict_in r)
 
     bytes : List ℕ
-    bytes = staged.unit.bytes
+    bytes = unit.bytes
 
     Published : List ℕ → List ℕ → Type 0
     Published = IsPublished job.name job.plan held (j ∷ [])
@@ -70,19 +64,19 @@ staged_for rules job held u i r supply m name plan staged = record { made = made
     made p there =
         let found = in_map pair_of (staged_in r) p there in
         let f : StagedFile = found.0 in
-        let its = staged.unit.files.each f found.1 in
+        let its = unit.files.each f found.1 in
         let content : List ℕ = sent_to its.target (unit_sends rules.plan u bytes) in
         let back = sym plan in
         let from : m p.0 ≡ Some (clean content) =
         ap (λ (q : List ℕ × List ℕ). m q.0) (sym found.2)
-        ∙ staged.hold f its.target found.1 its.some its.published in
+        ∙ holds f its.target found.1 its.some its.published in
         let published : Published p.1 content = record {
           unit = j;
           of_units = first_in j [] j refl;
           path = name_in job.plan u its.target;
           made = record {
             target = its.target;
-            sends = (λ k. sent_to its.target (deliveries_of (unit_fold (plan k) u.lo (sym staged.same k))));
+            sends = (λ k. sent_to its.target (deliveries_of (unit_fold (plan k) u.lo (sym same k))));
             some = its.some;
             called = refl;
           };
@@ -94,27 +88,27 @@ staged_for rules job held u i r supply m name plan staged = record { made = made
     all : (n content : List ℕ) → Published n content
         → (p : List ℕ × List ℕ) × Contains (pairs_in r) p × (p.1 ≡ n) × (m p.0 ≡ Some (clean content))
     all n content published =
-        let unit : j ≡ published.unit =
+        let its : j ≡ published.unit =
         ⊎_elim (λ e. e) (λ none. none_in published.unit none) (in_cases j [] published.unit published.of_units) in
         let t : Target = published.made.target in
-        let same : sent_to t (unit_sends rules.plan u bytes) ≡ content =
-        (λ k. sent_to t (deliveries_of (unit_fold (sym plan k) ((unit k).0.lo)
-        (bytes_here published.unit unit k))))
+        let sends : sent_to t (unit_sends rules.plan u bytes) ≡ content =
+        (λ k. sent_to t (deliveries_of (unit_fold (sym plan k) ((its k).0.lo)
+        (bytes_here published.unit its k))))
         ∙ published.made.sends in
-        let some : sent_to t (unit_sends rules.plan u bytes) ≢ [] = λ e. published.made.some (sym same ∙ e) in
-        let file = staged.unit.files.all t some in
+        let some : sent_to t (unit_sends rules.plan u bytes) ≢ [] = λ e. published.made.some (sym sends ∙ e) in
+        let file = unit.files.all t some in
         let f : StagedFile = file.0 in
         let called : f.to ≡ n =
-        file.2 ∙ ((λ k. under (sym name k) (name_in (sym plan k) ((unit k).0) t))
+        file.2 ∙ ((λ k. under (sym name k) (name_in (sym plan k) ((its k).0) t))
         ∙ (ap (under job.name) published.made.called ∙ sym published.called)) in (
           pair_of f,
           map_in pair_of (staged_in r) f file.1,
           called,
-          staged.hold f t file.1 some file.2 ∙ ap (λ c. Some (clean c)) same,
+          holds f t file.1 some file.2 ∙ ap (λ c. Some (clean c)) sends,
         )
       where
         bytes_here : (k : Judged) → j ≡ k → bytes ≡ bytes_in held k.0.part (span_of k.0)
-        bytes_here k e = staged.same ∙ ap (λ (x : Judged). bytes_in held x.0.part (span_of x.0)) e
+        bytes_here k e = same ∙ ap (λ (x : Judged). bytes_in held x.0.part (span_of x.0)) e
 
 -- ---- all good units
 
@@ -130,25 +124,33 @@ all_staged rules turns units states losses first now job s pulls name plan ended
         let unit = good_result rules u i now.supply now.disk r (ended.stand i u r of_unit of_result) good in
         let same : unit.bytes ≡ bytes_from s.held u.part u.lo (u.hi - u.lo) =
         subst (λ o. IfSome o (λ t. unit.bytes ≡ bytes_from t.held u.part u.lo (u.hi - u.lo))) supply unit.told in
-        staged_for rules job s.held u i r now.supply d.files name plan
-        (record {
-          unit = record {
-            bytes = unit.bytes;
-            failures = unit.failures;
-            small = unit.small;
-            verdict = unit.verdict;
-            told = unit.told;
-            files = unit.files;
-            hold = tt;
-          };
-          same = same;
-          hold = subst (λ o. IfSome o (λ e. HoldCleanly rules.plan u rules.job (unit_sends rules.plan u unit.bytes)
-              (staged_in r) e.files)) disk unit.hold;
-        })
+        stages rules job s.held u i r now.supply now.disk d.files name plan unit same
+        (subst (λ o. IfSome o (λ e. HoldCleanly rules.plan u rules.job (unit_sends rules.plan u unit.bytes)
+        (staged_in r) e.files)) disk unit.hold)
 
     told : (o : Option Disk) → now.disk ≡ o → IfSome o (λ d. AllStaged job s.held units (results_in states) d.files)
     told None is = tt
     told (Some d) is = staged_in_map d is
+
+pub all_given : (rules : TurnRulesValue) (turns : TurnRules) (units : List WorkUnit) (states : List Progress)
+    (losses : List ℕ) (first now : Devices) (job : Job) → job.name ≡ rules.job → job.plan ≡ rules.plan
+    → HaveEnded rules turns units states losses first now → AllGiven job units (results_in states) now.disk
+all_given rules turns units states losses first now job name plan ended i u r of_unit of_result good =
+    let unit = good_result rules u i now.supply now.disk r (ended.stand i u r of_unit of_result) good in
+    record {
+      bytes = unit.bytes;
+      whole = unit.whole;
+      verdict = unit.verdict ∙ ap (λ p. verdict_of p u unit.bytes) (sym plan);
+      staged = held_there unit now.disk unit.hold;
+    }
+  where
+    held_there : (unit : IsGoodUnit rules u i r now.supply now.disk) (o : Option Disk)
+        → IfSome o (λ d. HoldCleanly rules.plan u rules.job (unit_sends rules.plan u unit.bytes) (staged_in r) d.files)
+        → IfSome o (λ d. (held : Held) → bytes_in held u.part (span_of u) ≡ unit.bytes
+        → StagedFor job held ((u, verdict_in r) ∷ []) d.files (pairs_in r))
+    held_there unit None holds = tt
+    held_there unit (Some d) holds = λ held same.
+        stages rules job held u i r now.supply now.disk d.files name plan unit (sym same) holds
 
 pub are_results : (rules : TurnRulesValue) (turns : TurnRules) (units : List WorkUnit) (listed : List ℕ)
     (states : List Progress) (core : CoreValue) (k : ℕ) (losses : List ℕ) (first now : Devices)

@@ -111,6 +111,7 @@ stands_still rules u i j (Ended (unit_result.Good counts warnings files)) old ne
       bytes = stands.bytes;
       failures = stands.failures;
       small = stands.small;
+      whole = stands.whole;
       verdict = stands.verdict;
       told = supply_stays (λ held. stands.bytes ≡ bytes_from held u.part u.lo (u.hi - u.lo))
           old.supply new.supply keeps.pulls stands.told;

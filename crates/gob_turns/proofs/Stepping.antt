@@ -19,6 +19,7 @@ use Rattle.gob_turns.proofs.Ending.{stopped_left, unnoted_left}
 use Rattle.gob_turns.proofs.Going.{one_step}
 use Rattle.gob_turns.proofs.Picking.{contains_at, is_picked}
 use Rattle.gob_turns.proofs.Places.{ahead_moves}
+use Rattle.gob_turns.proofs.Pulled.{pulled_once}
 use Rattle.gob_turns.proofs.Stays.{attempt_is_staged, open_listed}
 
 -- the picked unit is at hand: its place, itself, and where it stands
@@ -99,6 +100,7 @@ pub keeps_all : (rules : TurnRulesValue) (i : ℕ) (old new : Devices) → Keeps
     → KeepsAll rules.job old new
 keeps_all rules i old new keeps = record {
   below = attempt_is_staged rules.job i keeps.failures keeps.below;
+  pulled = pulled_once old.supply new.supply keeps.pulls;
   source = keeps.source;
   planned = keeps.planned;
   volume = keeps.volume;

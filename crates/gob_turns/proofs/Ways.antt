@@ -533,6 +533,7 @@ has_result rules i t v fed given (unit_result.Good n ws files) old mid now disk 
       bytes = all;
       failures = v.failures;
       small = whole.was.small.1;
+      whole = long;
       verdict = finished.verdict ∙ ap (λ x. verdict_of rules.plan x all) unit;
       told = if_both (λ s. all ≡ bytes_from s.held t.unit.part t.unit.lo (length all)) (λ s. Unit {0})
           (λ s. all ≡ bytes_from s.held t.unit.part t.unit.lo (t.unit.hi - t.unit.lo)) now

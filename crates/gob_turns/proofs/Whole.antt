@@ -1,8 +1,9 @@
 -- All turns of a run, from the first to the last.
-use Rattle.std.proofs.Common.{◌≡◌, ℕ, ◌+◌, ◌*◌, List, [], ap, sym, subst, ◌∙◌, arith, Some, None}
+use Rattle.std.proofs.Common.{◌≡◌, ℕ, ◌+◌, ◌*◌, List, [], refl, ap, sym, subst, ◌∙◌, arith, Some, None}
+use Rattle.std.proofs.Math.Nat.{le_refl}
 use Rattle.gob_device.specs.Causes.{RoseBy}
 use Rattle.gob_device.specs.Supply.{Supply}
-use Rattle.gob_device.proofs.Trail.{along_then}
+use Rattle.gob_device.proofs.Trail.{along_nothing, along_then}
 use Rattle.gob_bytes.specs.Paths.{staging}
 use Rattle.gob_plan.specs.declared.plan.TurnRules.{TurnRules}
 use Rattle.gob_plan.specs.declared.units.Unit.{Unit as WorkUnit}
@@ -16,12 +17,13 @@ use Rattle.gob_turns.specs.declared.progress.Progress.{Progress}
 use Rattle.gob_turns.specs.Asked.{AreHeld, IsWorkedBy, MayHaveTurns}
 use Rattle.gob_turns.specs.Course.{HaveBegun}
 use Rattle.gob_turns.specs.Standing.{results_in}
-use Rattle.gob_turns.specs.Taken.{AreCommittable, AreResults, given_up_in}
+use Rattle.gob_turns.specs.Taken.{AllGiven, AreCommittable, AreResults, given_up_in}
 use Rattle.gob_turns.specs.Underway.{AreUnderway, IsLeft, KeepsAll}
 use Rattle.gob_turns.proofs.Beginning.{begins}
 use Rattle.gob_turns.proofs.Committing.{are_committable}
 use Rattle.gob_turns.proofs.Ending.{HaveEnded, have_ended, underway_left}
-use Rattle.gob_turns.proofs.Publishing.{are_results}
+use Rattle.gob_turns.proofs.Publishing.{all_given, are_results}
+use Rattle.gob_turns.proofs.Pulled.{pulled_nothing, pulled_then}
 
 pub keeps_then : (job : List ℕ) (old mid new : Devices) → KeepsAll job old mid → KeepsAll job mid new
     → KeepsAll job old new
@@ -33,10 +35,20 @@ keeps_then job old mid new first later =
     record {
       below = along_then (OnlyBelow (staging job)) (λ m n k a b name off. b name off
           ∙ a name off) first.below later.below;
+      pulled = pulled_then old.supply mid.supply new.supply first.pulled later.pulled;
       source = omega (arith, up, more);
       planned = later.planned ∙ first.planned;
       volume = omega (arith, rose, again);
     }
+
+pub keeps_here : (job : List ℕ) (now : Devices) → KeepsAll job now now
+keeps_here job now = record {
+  below = along_nothing (OnlyBelow (staging job)) now.disk;
+  pulled = pulled_nothing now.supply;
+  source = le_refl now.source_faults;
+  planned = refl;
+  volume = le_refl now.volume_faults;
+}
 
 pub begins_here : (rules : TurnRulesValue) (turns : TurnRules) (units : List WorkUnit) (listed : List ℕ)
     (states : List Progress) (core : CoreValue) (k : ℕ) (losses : List ℕ) (first : Devices)
@@ -82,6 +94,14 @@ pub results_over : (rules : TurnRulesValue) (turns : TurnRules) (units : List Wo
 results_over rules turns units listed states core k losses first now results over same job s works told held =
     are_results rules turns units listed states core k losses first now results job s over.under over.ended same works
     told held
+
+pub given_over : (rules : TurnRulesValue) (turns : TurnRules) (units : List WorkUnit) (listed : List ℕ)
+    (states : List Progress) (core : CoreValue) (k : ℕ) (losses : List ℕ) (first now : Devices)
+    (results : List UnitResult) → IsOver rules turns units listed states core k losses first now
+    → results ≡ results_in states → (job : Job) → IsWorkedBy rules turns job → AllGiven job units results now.disk
+given_over rules turns units listed states core k losses first now results over same job works =
+    subst (λ rs. AllGiven job units rs now.disk) (sym same)
+    (all_given rules turns units states losses first now job works.name works.plan over.ended)
 
 pub committable_over : (rules : TurnRulesValue) (turns : TurnRules) (units : List WorkUnit) (listed : List ℕ)
     (states : List Progress) (core : CoreValue) (k : ℕ) (losses : List ℕ) (first now : Devices)

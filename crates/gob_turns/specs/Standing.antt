@@ -89,6 +89,7 @@ pub record IsGoodUnit (rules : TurnRulesValue) (u : WorkUnit) (i : ℕ) (r : Uni
   pub bytes : List ℕ
   pub failures : ℕ
   pub small : failures < 2 ^ 32
+  pub whole : length bytes ≡ u.hi - u.lo
   pub verdict : verdict_in r ≡ verdict_of rules.plan u bytes
   pub told : IfSome supply (λ s. bytes ≡ bytes_from s.held u.part u.lo (u.hi - u.lo))
   pub files : AreStagedFor rules.job rules.plan u (attempt_folder rules.job i failures)

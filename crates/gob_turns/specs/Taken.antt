@@ -1,5 +1,5 @@
 -- What the turns of a run leave: pulls, results, staged files and faults.
-use Rattle.std.specs.Prelude.{◌≡◌, ◌≢◌, ℕ, true, List, [], ◌∷◌, ◌++◌, map, length, IfSome, IsSome}
+use Rattle.std.specs.Prelude.{◌≡◌, ◌≢◌, ℕ, ◌-◌, true, List, [], ◌∷◌, ◌++◌, map, length, option_map, IfSome, IsSome}
 use Rattle.std.specs.declared.option.Option.{Option}
 use Rattle.std.specs.declared.option.Option.TheVariants.{Some}
 use Rattle.std.specs.List.{Contains, count_by, flat_map, slice_get}
@@ -11,10 +11,13 @@ use Rattle.gob_plan.specs.declared.units.Counts.{Counts}
 use Rattle.gob_plan.specs.declared.units.Unit.{Unit as WorkUnit}
 use Rattle.gob_plan.specs.declared.units.UnitResult.{UnitResult}
 use Rattle.gob_meaning.specs.Job.{Job}
+use Rattle.gob_meaning.specs.Results.{verdict_of}
+use Rattle.gob_ledger.specs.Expected.{bytes_in}
 use Rattle.gob_ledger.specs.Laws.{ProperCounts}
 use Rattle.gob_ledger.specs.Next.{counts_in, is_good}
 use Rattle.gob_ledger.specs.TurnLaws.{is_fault}
 use Rattle.gob_ledger.specs.Turns.{pulls_in, turns_of, verdicts_of}
+use Rattle.gob_ledger.specs.Units.{span_of}
 use Rattle.gob_recovery.specs.Sequence.{WellFormed}
 use Rattle.gob_history.specs.Laws.{StagedFor, moves_of, staged_state}
 use Rattle.gob_state.specs.Committed.{verdict_in, verdicts_in}
@@ -53,6 +56,24 @@ pub record AreResults (job : Job) (s : Supply) (units : List WorkUnit) (failed :
   pub staged : IfSome disk (λ d. AllStaged job s.held units results d.files)
 
 -- ---- over any devices
+
+-- a source that tells tells of these pulls more, and one that doesn't tell doesn't afterwards
+abbrev pub HasPulled : Option Supply → Option Supply → Type 0
+HasPulled old new = (pulls : List Pull) × (new ≡ option_map (with_pulls pulls) old)
+
+-- the bytes that a good unit was given: as many as its range has; its verdict and its files are what they make
+pub record IsGiven (job : Job) (u : WorkUnit) (r : UnitResult) (disk : Option Disk) : Type 0 where
+  pub bytes : List ℕ
+  pub whole : length bytes ≡ u.hi - u.lo
+  pub verdict : verdict_in r ≡ verdict_of job.plan u bytes
+  pub staged : IfSome disk (λ d. (held : Held) → bytes_in held u.part (span_of u) ≡ bytes
+      → StagedFor job held ((u, verdict_in r) ∷ []) d.files (pairs_in r))
+
+-- each good unit was given bytes
+abbrev pub AllGiven : Job → List WorkUnit → List UnitResult → Option Disk → Type 0
+AllGiven job units results disk = (i : ℕ) (u : WorkUnit) (r : UnitResult)
+    → slice_get units i ≡ Some u → slice_get results i ≡ Some r → is_good (verdict_in r) ≡ true
+    → IsGiven job u r disk
 
 -- the name of a staged file other than the state, and one that is published
 pub record IsStagedPair (job : List ℕ) (p : List ℕ × List ℕ) : Type 0 where

@@ -21,7 +21,7 @@ use Rattle.gob_task.specs.Turn.{Devices, TurnRulesValue}
 use Rattle.gob_turns.specs.Asked.{AreHeld, IsWorkedBy}
 use Rattle.gob_turns.specs.Standing.{StandsAs, IsJudged, all_ahead, all_failures, all_waiting, failures_of}
 use Rattle.gob_turns.specs.Standing.{is_open, open_numbers, turns_ahead, waiting_for}
-use Rattle.gob_turns.specs.Taken.{AreFirstPulls}
+use Rattle.gob_turns.specs.Taken.{AreFirstPulls, HasPulled}
 use Rattle.gob_turns.specs.Turning.{TurnsSoFar}
 use Rattle.gob_turns.specs.declared.progress.Progress.{Progress}
 use Rattle.gob_turns.specs.declared.progress.Progress.TheVariants.{Waits, Runs, Ended}
@@ -114,9 +114,11 @@ pub record AreUnderway (rules : TurnRulesValue) (turns : TurnRules) (units : Lis
   pub told : (job : Job) (s : Supply) → IsWorkedBy rules turns job → old.supply ≡ Some s → AreHeld s.held units
       → IsTold job s units states k failed new.supply
 
--- what any number of turns keeps: nothing but staged files differs, and no count of faults falls
+-- what any number of turns keeps: nothing but staged files differs, a source tells of more pulls alone, and no count of
+-- faults falls
 pub record KeepsAll (job : List ℕ) (old new : Devices) : Type 0 where
   pub below : Along (OnlyBelow (staging job)) old.disk new.disk
+  pub pulled : HasPulled old.supply new.supply
   pub source : old.source_faults ≤ new.source_faults
   pub planned : new.plan_faults ≡ old.plan_faults
   pub volume : old.volume_faults ≤ new.volume_faults

@@ -8,7 +8,8 @@ ghost use Rattle.gob_meaning.specs.Job.{Job};
 ghost use Rattle.gob_recovery.specs.Commits.{OnlyBelow};
 ghost use Rattle.gob_bytes.specs.Paths.{staging};
 ghost use Rattle.gob_turns.specs.Asked.{AreHeld, IsWorkedBy, MayHaveTurns};
-ghost use Rattle.gob_turns.specs.Taken.{AreCommittable, AreFirstPulls, AreResults, FailuresRose, given_up_in};
+ghost use Rattle.gob_turns.specs.Taken.{AllGiven, AreCommittable, AreFirstPulls, AreResults, FailuresRose, HasPulled};
+ghost use Rattle.gob_turns.specs.Taken.{given_up_in};
 
 use crate::TurnsFault;
 use crate::course::Course;
@@ -37,6 +38,9 @@ pub fn take_turns<S: Source, V: Volume>(
     ensures whole { IfOk result (λ results. (job : Job) (s : Supply) → IsWorkedBy rules.now turns.now job
         → S.supply source.old ≡ Some s → AreHeld s.held units.now
         → AreResults job s units.now failed.new results (S.supply source.new) (V.disk volume.new)) }
+    ensures given { IfOk result (λ results. (job : Job) → IsWorkedBy rules.now turns.now job
+        → AllGiven job units.now results (V.disk volume.new)) }
+    ensures pulled { HasPulled (S.supply source.old) (S.supply source.new) }
     ensures committable { IfOk result (λ results. AreCommittable rules.now.job units.now results (V.disk volume.new)) }
     ensures maps { Along (OnlyBelow (staging rules.now.job)) (V.disk volume.old) (V.disk volume.new) }
     ensures failing { FailuresRose failed.new (S.faults source.old) (S.faults source.new) }

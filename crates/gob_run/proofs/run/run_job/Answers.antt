@@ -1,9 +1,8 @@
 use Rattle.std.proofs.Common.{ℕ, List, [], Ok, Err, refl, sym, subst, arith}
 use Rattle.std.proofs.lemmas.Result.{err_from_is_err_and}
-use Rattle.gob_device.specs.Disk.{AddsMaps, EachFrom}
+use Rattle.gob_device.specs.Disk.{AddsMaps}
 use Rattle.gob_device.specs.Names.{IsPathname}
 use Rattle.gob_job.specs.Jobs.{job_from}
-use Rattle.gob_seq.specs.Maps.{SettlesByName}
 use Rattle.gob_run.specs.Answers.{Answer, RunAnswered}
 use Rattle.gob_run.specs.Faults.{BeginsNot, Finds}
 use Rattle.gob_run.specs.World.{World}
@@ -11,9 +10,7 @@ use Rattle.gob_run.proofs.Answering.{answered_behind_work}
 use Rattle.gob_run.proofs.Began.{closed_of}
 use Rattle.gob_run.proofs.Called.{at_err}
 use Rattle.gob_run.proofs.Named.{file_pathname}
-use Rattle.gob_run.proofs.Readers.{readers_of_settling}
-use Rattle.gob_run.proofs.Reading.{readers_of_entering}
-use Rattle.gob_run.proofs.Refusing.{readers_told, refused_at_cut, refused_at_entry}
+use Rattle.gob_run.proofs.Refusing.{refused_at_cut, refused_at_entry}
 use Rattle.gob_run.proofs.Trailing.{EntrySays}
 use Rattle.gob_run.proofs.run.run_job.Goals as goal
 
@@ -54,13 +51,12 @@ returns-in_err-loaded g c =
     (refused_at_entry job fault old new
     (record {
       alike = says.alike;
+      names = says.names;
       below = says.below;
       unpulled = refl;
       goes_on = record { source = omega arith; planned = omega arith; volume = says.later };
     })
-    (readers_told job [] (EachFrom (SettlesByName job.name)) old new
-    (λ held m added each. readers_of_entering job held [] m added (readers_of_settling job.name m added each))
-    says.names) stopped))
+    stopped))
 
 pub returns-in_err-cut : goal.returns-in_err-cut
 returns-in_err-cut g c =
@@ -98,6 +94,7 @@ returns-in_err-cut g c =
     (refused_at_cut job c.in_ok-loaded.loaded fault old mid
     (record {
       alike = says.alike;
+      names = says.names;
       below = says.below;
       unpulled = c.cut_over.ensures.supply;
       goes_on = record {
@@ -106,9 +103,7 @@ returns-in_err-cut g c =
         volume = says.later;
       };
     })
-    (readers_told job [] (EachFrom (SettlesByName job.name)) old mid
-    (λ held m added each. readers_of_entering job held [] m added (readers_of_settling job.name m added each))
-    says.names) found c.in_err-cut.ensures.stopped))
+    found c.in_err-cut.ensures.stopped))
 
 pub work_on-requires-clause-closed : goal.work_on-requires-clause-closed
 work_on-requires-clause-closed g c =
@@ -171,7 +166,7 @@ returns-in_err-outcome g c =
         volume = says.later;
       };
     })
-    c.in_err-outcome.ensures)
+    c.in_err-outcome.ensures.worked tt)
 
 pub returns : goal.returns
 returns g c =
@@ -224,4 +219,4 @@ returns g c =
         volume = says.later;
       };
     })
-    c.in_ok-outcome.ensures
+    c.in_ok-outcome.ensures.worked c.in_ok-outcome.ensures.idle

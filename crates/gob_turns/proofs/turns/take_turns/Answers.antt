@@ -1,6 +1,8 @@
 use Rattle.std.proofs.Common.{ap}
 use Rattle.gob_sched.specs.CoreValue.{CoreValue}
-use Rattle.gob_turns.proofs.Whole.{begins_here, committable_over, given_up_over, is_over, left_over, results_over}
+use Rattle.gob_turns.proofs.Whole.{begins_here, committable_over, given_over, given_up_over, is_over, left_over}
+use Rattle.gob_turns.proofs.Whole.{results_over}
+use Rattle.gob_turns.proofs.Pulled.{pulled_nothing}
 use Rattle.gob_turns.proofs.turns.take_turns.Goals as goal
 
 pub run-requires-clause-underway : goal.run-requires-clause-underway
@@ -34,6 +36,16 @@ returns-clause-committable g c =
     (ap (λ (x : CoreValue). x.rules) c.in_ok-course.ensures.begun.begins) c.in_ok-run.ensures.went
     c.in_ok-run.ensures.ended in
     committable_over _ _ _ _ _ _ _ _ _ _ _ c.requires.units over c.in_ok-results.ensures
+
+pub returns-clause-given : goal.returns-clause-given
+returns-clause-given g c =
+    let over = is_over _ _ _ _ _ _ _ _ _ _ _ c.requires.units
+    (ap (λ (x : CoreValue). x.rules) c.in_ok-course.ensures.begun.begins) c.in_ok-run.ensures.went
+    c.in_ok-run.ensures.ended in
+    given_over _ _ _ _ _ _ _ _ _ _ _ over c.in_ok-results.ensures
+
+pub returns-in_err-course-clause-pulled : goal.returns-in_err-course-clause-pulled
+returns-in_err-course-clause-pulled g c = pulled_nothing _
 
 pub returns-clause-given_up : goal.returns-clause-given_up
 returns-clause-given_up g c =

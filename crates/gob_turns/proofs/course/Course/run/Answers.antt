@@ -1,7 +1,14 @@
 use Rattle.std.proofs.Common.{sym}
 use Rattle.gob_turns.proofs.Answering.{on_err}
-use Rattle.gob_turns.proofs.Whole.{keeps_then, left_with, with_rules}
+use Rattle.gob_turns.proofs.Whole.{keeps_here, keeps_then, left_with, with_rules}
 use Rattle.gob_turns.proofs.course.Course.run.Goals as goal
+
+pub turns-init : goal.turns-init
+turns-init g c = record {
+  underway = c.requires.underway;
+  keeps = keeps_here _ _;
+  bench = c.requires.bench;
+}
 
 pub turns-preserved : goal.turns-preserved
 turns-preserved g c = record {

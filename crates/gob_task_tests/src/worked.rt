@@ -1,0 +1,136 @@
+//! Units that are worked on to their end.
+
+ghost use Rattle.std.specs.Prelude.{◌≡◌, ◌<◌, IfOk};
+ghost use Rattle.gob_stage.specs.Attempt.{AreThere};
+ghost use Rattle.gob_task.specs.Bench.{FitsBench};
+ghost use Rattle.gob_task.specs.Task.{IsPullable};
+ghost use Rattle.gob_task.specs.Turn.{StandsAfter};
+ghost use Rattle.gob_task_tests.specs.Turns.{ends};
+ghost use Rattle.gob_volume.specs.MemVolume.{told_by};
+
+use crate::given::{source_of, unit_to};
+use gob_io::MemSource;
+use gob_plan::{Unit, UnitResult};
+use gob_task::{Bench, Task, TaskRules, Turn, TurnFault};
+use gob_volume::MemVolume;
+use std::alloc::Global;
+
+/// What a unit came to, which is nothing behind more than 64 turns, and its devices.
+#[derive(Drop)]
+pub struct Ran {
+    pub result: Option<UnitResult>,
+    pub source: MemSource,
+    pub volume: MemVolume,
+}
+
+/// The first so many bytes of these are worked on, as unit 7; the pulls with these numbers fail.
+pub fn run(
+    alloc: Global,
+    rules: &TaskRules,
+    hi: u64,
+    bytes: &[u8],
+    fails: Vec<u64>,
+) -> Result<Ran, TurnFault>
+    requires { 0 < hi }
+{
+    let unit = unit_to(alloc, hi)?;
+    let mut source = source_of(alloc, bytes, fails)?;
+    let mut volume = MemVolume::new(alloc, Vec::new(alloc));
+    let result = worked(alloc, rules, &unit, &mut source, &mut volume)?;
+    Ok(Ran {
+        result,
+        source,
+        volume,
+    })
+}
+
+// What comes of the unit.
+fn worked(
+    alloc: Global,
+    rules: &TaskRules,
+    unit: &Unit,
+    source: &mut MemSource,
+    volume: &mut MemVolume,
+) -> Result<Option<UnitResult>, TurnFault>
+    requires { IsPullable unit.now }
+{
+    let mut bench = Bench::new(alloc, rules)?;
+    by_turns(alloc, rules, unit, &mut bench, source, volume)
+}
+
+// The same, turn by turn.
+fn by_turns(
+    alloc: Global,
+    rules: &TaskRules,
+    unit: &Unit,
+    bench: &mut Bench,
+    source: &mut MemSource,
+    volume: &mut MemVolume,
+) -> Result<Option<UnitResult>, TurnFault>
+    requires pullable { IsPullable unit.now }
+    requires bench { FitsBench rules.now bench.old }
+{
+    let mut task = Task::start(alloc, rules, unit, 7)?;
+    let turn = last_turn(alloc, rules, &mut task, bench, source, volume)?;
+    ended(alloc, rules, turn, task, volume)
+}
+
+// The turn that ends the task.
+fn last_turn(
+    alloc: Global,
+    rules: &TaskRules,
+    task: &mut Task,
+    bench: &mut Bench,
+    source: &mut MemSource,
+    volume: &mut MemVolume,
+) -> Result<Turn, TurnFault>
+    requires stands { StandsAfter rules.now task.old Turn.Going }
+    requires there { AreThere task.old.staged (told_by volume.old).files }
+    requires bench { FitsBench rules.now bench.old }
+    ensures stands { IfOk result (StandsAfter rules.now task.new) }
+    ensures there { IfOk result (λ turn. AreThere task.new.staged (told_by volume.new).files) }
+{
+    for _ in 0..64 {
+        let turn = task.turn(alloc, rules, bench, source, volume)?;
+        if is_last(turn) {
+            return Ok(turn);
+        }
+    }
+    Ok(Turn::Going)
+}
+
+fn is_last(turn: Turn) -> bool
+    ensures { result ≡ ends turn }
+{
+    match turn {
+        Turn::Going => false,
+        Turn::Retry => false,
+        Turn::Failed(_) => true,
+        Turn::Whole => true,
+    }
+}
+
+// What the task comes to behind this turn.
+fn ended(
+    alloc: Global,
+    rules: &TaskRules,
+    turn: Turn,
+    task: Task,
+    volume: &mut MemVolume,
+) -> Result<Option<UnitResult>, TurnFault>
+    requires stands { StandsAfter rules.now task turn }
+    requires there { AreThere task.staged (told_by volume.old).files }
+{
+    if let Turn::Whole = turn {
+        let result = task.finish(alloc, rules, volume)?;
+        return Ok(Some(result));
+    }
+    Ok(failed(turn))
+}
+
+fn failed(turn: Turn) -> Option<UnitResult> {
+    match turn {
+        Turn::Failed(cause) => Some(UnitResult::Failed { cause }),
+        _ => None,
+    }
+}
