@@ -115,22 +115,22 @@ impl Branch {
         &self,
         alloc: Global,
         scratch: &mut RowScratch,
-        row: Row,
+        row: &Row,
         items: &mut LineItems,
     ) -> Result<(), ConvertFault>
-        requires { conforms self.now.columns row ≡ true }
+        requires { conforms self.now.columns row.now ≡ true }
         ensures ok { OnOk result
-            (concatenation (Some items.old) (made_in_branch self.now.spec self.now.number self.now.columns row)
+            (concatenation (Some items.old) (made_in_branch self.now.spec self.now.number self.now.columns row.now)
             ≡ Some items.new) }
         ensures bad { IfErr result (λ e. e ≡ Fault.Bad
-            → made_in_branch self.now.spec self.now.number self.now.columns row ≡ None) }
+            → made_in_branch self.now.spec self.now.number self.now.columns row.now ≡ None) }
         ensures err { OnErr result (items.new ≡ items.old) }
     {
         if self.chain.is_empty() {
-            self.push_made(scratch, &row, items)?;
+            self.push_made(scratch, row, items)?;
             return Ok(());
         }
-        let rows = self.chain.rows_of(alloc, row)?;
+        let rows = self.chain.rows_of_lent(alloc, row)?;
         self.push_each(scratch, rows.as_slice(), items)?;
         Ok(())
     }

@@ -104,8 +104,7 @@ impl Routes {
         if !picks(&self.fork, &self.columns, row, branch.number()) {
             return Ok(false);
         }
-        let copy = row.copy()?;
-        branch.push(alloc, scratch, copy, items)?;
+        branch.push(alloc, scratch, row, items)?;
         Ok(true)
     }
 }

@@ -14,6 +14,7 @@ use Rattle.gob_meaning.specs.Job.{Job}
 use Rattle.gob_ledger.specs.Turns.{pulls_in, turns_of, verdicts_of}
 use Rattle.gob_ledger.specs.Units.{first_shrunk, new_units, range_count}
 use Rattle.gob_ledger.specs.UnitLaws.{new_count}
+use Rattle.gob_ledger.proofs.OneState.{same_some}
 use Rattle.gob_recovery.specs.Commits.{OnlyBelow}
 use Rattle.gob_recovery.proofs.Settled.{settled_is}
 use Rattle.gob_history.specs.Runs.{run_units, state_or_empty}
@@ -24,12 +25,13 @@ use Rattle.gob_turns.specs.Taken.{FailuresRose, HasPulled, given_up_in}
 use Rattle.gob_run.specs.Answers.{Answer, FaultCaused, RunAnswered, RunIsDone}
 use Rattle.gob_run.specs.Answers.{ToldFirst}
 use Rattle.gob_run.specs.Cutting.{CutFits, parts_of}
-use Rattle.gob_run.specs.Entry.{Entry, IsBroken, Refused, broken, full, shrunk}
+use Rattle.gob_run.specs.Entry.{Entry, IsBroken, OnlySettled, Refused, broken, full, shrunk}
 use Rattle.gob_run.specs.Working.{WorkIsDone, WorkStops, Worked}
 use Rattle.gob_run.specs.World.{GoesOn, World}
 use Rattle.gob_run.specs.declared.fault.RunFault.{RunFault}
 use Rattle.gob_run.specs.declared.fault.RunFault.TheVariants.{Damaged, Shrunk, Full, SourceFault, VolumeFault, Memory}
-use Rattle.gob_run.proofs.Began.{Began, began_of, entry_of, found_is_one, not_broken, parts_same, settled_to}
+use Rattle.gob_run.proofs.Began.{Began, began_of, entry_of, found_is_one, not_broken, only_settled, parts_same}
+use Rattle.gob_run.proofs.Began.{settled_to}
 use Rattle.gob_run.proofs.Counting.{new_count_told}
 use Rattle.gob_run.proofs.Trailing.{IsUnderway, TellsCut, cut_told, filed_of, left_of, published_of, trail_of}
 use Rattle.gob_run.proofs.Trailing.{units_are}
@@ -64,7 +66,7 @@ begun job l cut old mid d u is = began_of job.name l old.disk mid.disk d u.found
 
 is_done : (job : Job) (failing : List ℕ) (l : Loaded) (cut : Cut) (out : Outcome) (old mid new : World)
     → IsUnderway job l cut old mid → WorkIsDone job failing l cut out mid new
-    → (out.units ≡ [] → new.disk ≡ mid.disk) → RunIsDone job failing out old new
+    → (cut.units ≡ [] → new.disk ≡ mid.disk) → RunIsDone job failing out old new
 is_done job failing l cut out old mid new u w still = record {
   found = l.state;
   entry = where_some old.disk (λ d. Entry job.name d.files l.state)
@@ -103,7 +105,8 @@ is_done job failing l cut out old mid new u w still = record {
   gave_up = rose_by_after (given_up_in out.results * (job.max_retries + 1)) old.source_faults mid.source_faults
       new.source_faults u.goes_on.source w.gave_up;
   idle = λ none d is.
-      let b = begun job l cut old mid d u is in (b.0, still none ∙ b.1, settled_to job.name l d b.0 b.2);
+      let b = begun job l cut old mid d u is in
+      (b.0, still (sym w.units ∙ none) ∙ b.1, settled_to job.name l d b.0 b.2);
 }
 
 -- ---- what was not to be refused
@@ -149,7 +152,7 @@ caused_where job (Err f) old mid new on stops = caused job f old mid new on stop
 
 done_where : (job : Job) (failing : List ℕ) (l : Loaded) (cut : Cut) (a : Answer) (old mid new : World)
     → IsUnderway job l cut old mid → IfOk a (λ out. WorkIsDone job failing l cut out mid new)
-    → IfOk a (λ out. out.units ≡ [] → new.disk ≡ mid.disk) → IfOk a (λ out. RunIsDone job failing out old new)
+    → (cut.units ≡ [] → new.disk ≡ mid.disk) → IfOk a (λ out. RunIsDone job failing out old new)
 done_where job failing l cut (Ok out) old mid new u w still = is_done job failing l cut out old mid new u w still
 done_where job failing l cut (Err f) old mid new u w still = tt
 
@@ -167,7 +170,7 @@ ends (Err Memory) old mid new on stops still = inr refl
 
 pub answered_behind_work : (job : Job) (failing : List ℕ) (l : Loaded) (cut : Cut) (a : Answer) (old mid new : World)
     → IsUnderway job l cut old mid → Worked job failing l cut a mid new
-    → IfOk a (λ out. out.units ≡ [] → new.disk ≡ mid.disk) → RunAnswered job failing a old new
+    → (cut.units ≡ [] → new.disk ≡ mid.disk) → RunAnswered job failing a old new
 answered_behind_work job failing l cut a old mid new u w still = record {
   done = done_where job failing l cut a old mid new u w.done still;
   trail = λ d s is_d is_s.
@@ -219,6 +222,22 @@ answered_behind_work job failing l cut a old mid new u w still = record {
                 ∙ ap (λ us. pulls_in (turns_of job s.held us failing)) (sym units) ∙ p.turns,
           );
         },
+      );
+  idle = λ d s is_d is_s.
+      let b = begun job l cut old mid d u is_d in
+      let p = w.pulls s (u.supply ∙ is_s) in
+      let went = w.along s (u.supply ∙ is_s) b.0 b.1 (settled_is job.name d.files b.0.files b.2.settles) b.2.kept
+      b.2.keeps b.2.loaded in (
+        went.0,
+        with_pulls p.pulls s,
+        went.1,
+        p.supply,
+        λ owes.
+            let none : cut.units ≡ [] =
+            units_are job l cut s (cut_told job l cut old mid s u is_s)
+            ∙ owes l.state (entry_of job.name l d b.0 b.2) in
+            let same : went.0 ≡ b.0 = same_some went.0 b.0 (sym went.1 ∙ still none ∙ b.1) in
+            subst (OnlySettled job.name d) (sym same) (only_settled job.name l d b.0 b.2),
       );
   pulled = subst (λ o. HasPulled o new.supply) u.supply w.pulled;
   failed = failures_after failing old.source_faults mid.source_faults new.source_faults u.goes_on.source w.failed;

@@ -20,7 +20,7 @@ use Rattle.gob_segments.specs.Loading.{IsKept, IsLoaded}
 use Rattle.gob_segments.specs.declared.change.Loaded.{Loaded}
 use Rattle.gob_seq.specs.Maps.{ImagesSettleTheSame, SettlesByName}
 use Rattle.gob_run.specs.Cutting.{parts_of}
-use Rattle.gob_run.specs.Entry.{Entry, IsBroken, SettleAlike, SettledTo, sequence, state}
+use Rattle.gob_run.specs.Entry.{Entry, IsBroken, OnlySettled, SettleAlike, SettledTo, sequence, state}
 use Rattle.gob_run.specs.Faults.{Finds}
 use Rattle.gob_run.proofs.Wents.{adds_both, went_of}
 
@@ -82,6 +82,9 @@ entry_of job l d c b = record {
 pub settled_to : (job : List ℕ) (l : Loaded) (d c : Disk) → Began job l d c → SettledTo job d c
 settled_to job l d c b =
     record { added = b.first; trail = b.trail; stands = b.stands; alike = b.alike; settles = b.settles }
+
+pub only_settled : (job : List ℕ) (l : Loaded) (d c : Disk) → Began job l d c → OnlySettled job d c
+only_settled job l d c b = record { added = b.first; trail = b.trail; stands = b.stands; alike = b.alike }
 
 -- no other state is found
 pub found_is_one : (job : List ℕ) (l : Loaded) (d c : Disk) (o : Option State) → Began job l d c

@@ -31,7 +31,7 @@ use Rattle.gob_state.specs.declared.next.Outcome.{Outcome}
 use Rattle.gob_turns.specs.Taken.{FailuresRose, HasPulled}
 use Rattle.gob_turns.proofs.Pulled.{pulled_nothing}
 use Rattle.gob_run.specs.Answers.{Answer, Completes, Due, FaultCaused, NoPull, PublishesGiven, PublishesOnly, PullsAre}
-use Rattle.gob_run.specs.Answers.{PullsAreOf, RunAnswered, ToldFirst, TrailIs, groups_by}
+use Rattle.gob_run.specs.Answers.{PullsAreOf, RunAnswered, StaysIdle, ToldFirst, TrailIs, groups_by}
 use Rattle.gob_run.specs.Cutting.{CutNot, NoRoom, ShrunkAt, parts_of}
 use Rattle.gob_run.specs.Entry.{Entry, IsBroken, IsFull, IsShrunk, LeftBroken, Refused, SettledTo}
 use Rattle.gob_run.specs.Entry.{broken, full, sequence, shrunk, state}
@@ -166,6 +166,21 @@ early_own job old new early d s in_old in_supply =
       },
     )
 
+early_idle : (job : Job) (old new : World) → StopsEarly job old new → WhereTold (StaysIdle job) old new
+early_idle job old new early d s in_old in_supply =
+    let t = early_maps job old new d early in_old in (
+      t.0,
+      s,
+      t.1,
+      early.unpulled ∙ in_supply,
+      λ owes. record {
+        added = t.2.added;
+        trail = t.2.trail;
+        stands = t.2.stands;
+        alike = settle_alike job.name d.files t.2.added t.2.holds.0;
+      },
+    )
+
 none_failed : (before now : ℕ) → before ≤ now → FailuresRose [] before now
 none_failed before now later = record { rising = (0, refl); counted = omega (arith, later) }
 
@@ -179,6 +194,7 @@ early_answer job f old new early caused due completes = record {
   published = early_published job old new early;
   pulls = early_pulls job old new early.unpulled;
   own_pulls = early_own job old new early;
+  idle = early_idle job old new early;
   pulled = subst (HasPulled old.supply) (sym early.unpulled) (pulled_nothing old.supply);
   failed = none_failed old.source_faults new.source_faults early.goes_on.source;
   caused = caused;

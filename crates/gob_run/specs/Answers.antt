@@ -31,7 +31,7 @@ use Rattle.gob_history.specs.Sound.{AllRecoverTo}
 use Rattle.gob_state.specs.Committed.{judged_by, verdicts_in}
 use Rattle.gob_state.specs.declared.next.Outcome.{Outcome}
 use Rattle.gob_turns.specs.Taken.{FailuresRose, HasPulled, given_up_in}
-use Rattle.gob_run.specs.Entry.{Entry, IsFull, IsShrunk, LeftBroken, IsBroken, Refused, SettledTo, TooMany}
+use Rattle.gob_run.specs.Entry.{Entry, IsFull, IsShrunk, LeftBroken, IsBroken, OnlySettled, Refused, SettledTo, TooMany}
 use Rattle.gob_run.specs.World.{GoesOn, WhereFiled, WhereSupplied, WhereTold, World}
 use Rattle.gob_run.specs.declared.fault.RunFault.{RunFault}
 use Rattle.gob_run.specs.declared.fault.RunFault.TheVariants.{Damaged, Shrunk, Full, SourceFault, VolumeFault, Memory}
@@ -165,6 +165,14 @@ pub record PublishesGiven (job : Job) (d e : Disk) : Type 0 where
   pub publishes : (settled : Files) → Settles job.name d.files settled
       → EachOf (PublishesOnly job given (flat_map (done_in job) (groups_by job units results)) d.files settled) added
 
+-- the state that was found and what the source holds owe no unit
+abbrev pub OwesNothing : Job → Disk → Supply → Type 0
+OwesNothing job d s = (o : Option State) → Entry job.name d.files o → run_units job s.held o ≡ []
+
+-- then nothing is changed but what settling changes
+abbrev pub StaysIdle : Job → Disk → Supply → Disk → Supply → Type 0
+StaysIdle job d s e t = OwesNothing job d s → OnlySettled job.name d e
+
 -- no pull was made
 abbrev pub NoPull : World → World → Type 0
 NoPull old new = new.supply ≡ old.supply
@@ -216,6 +224,7 @@ pub record RunAnswered (job : Job) (failing : List ℕ) (a : Answer) (old new : 
   pub published : WhereFiled (PublishesGiven job) old new
   pub pulls : WhereSupplied (PullsAre job failing) old new
   pub own_pulls : WhereTold (PullsAreOf job failing) old new
+  pub idle : WhereTold (StaysIdle job) old new
   pub pulled : HasPulled old.supply new.supply
   pub failed : FailuresRose failing old.source_faults new.source_faults
   pub caused : IfErr a (FaultCaused job old new)

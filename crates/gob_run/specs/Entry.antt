@@ -37,6 +37,13 @@ pub record SettledTo (job : List ℕ) (d e : Disk) : Type 0 where
   pub alike : SettleAlike job d.files added
   pub settles : Settles job d.files e.files
 
+-- nothing was changed but what settling changes; where that was stopped the files may not be settled yet
+pub record OnlySettled (job : List ℕ) (d e : Disk) : Type 0 where
+  pub added : List Files
+  pub trail : e.trail ≡ d.trail ++ added
+  pub stands : e.files ≡ last_map d.files added
+  pub alike : SettleAlike job d.files added
+
 -- a file of the job can't be read: the open sequence, and then nothing was changed, or, once that is done, the state
 pub data LeftBroken (job name : List ℕ) (d e : Disk) : Type 0 where
   sequence : IsDamaged job d.files name → e ≡ d → LeftBroken job name d e

@@ -56,7 +56,7 @@ pub(crate) fn work_on<S: Source, V: Volume>(
           disk = V.disk volume.new;
           volume_faults = V.faults volume.new;
         }) }
-    ensures idle { IfOk result (λ out. out.units ≡ [] → V.disk volume.new ≡ V.disk volume.old) }
+    ensures idle { cut.units ≡ [] → V.disk volume.new ≡ V.disk volume.old }
 {
     if cut.units.is_empty() {
         let outcome = nothing_to_do(alloc, job, loaded, cut.too_long)?;

@@ -166,7 +166,7 @@ returns-in_err-outcome g c =
         volume = says.later;
       };
     })
-    c.in_err-outcome.ensures.worked tt)
+    c.in_err-outcome.ensures.worked c.work_on.ensures.idle)
 
 pub returns : goal.returns
 returns g c =
@@ -219,4 +219,4 @@ returns g c =
         volume = says.later;
       };
     })
-    c.in_ok-outcome.ensures.worked c.in_ok-outcome.ensures.idle
+    c.in_ok-outcome.ensures.worked c.work_on.ensures.idle

@@ -10,7 +10,7 @@ use Rattle.gob_branch.proofs.branch.Branch.push.Goals as goal
 pub returns-in_err-push_made-clause-bad : goal.returns-in_err-push_made-clause-bad
 returns-in_err-push_made-clause-bad c =
     let b = c.args.self.now in
-    let row = c.args.row in
+    let row = c.args.row.now in
     let none : b.spec.steps ≡ [] =
     subst (λ (v : BranchValue). v.spec.steps ≡ []) c.self.view_is (c.is_empty.ensures.0 c.if-is_empty.true) in
     let bad : c.in_err-push_made.field-0.0 ≡ Bad → made_in_branch b.spec b.number b.columns row ≡ None = λ is_bad.
@@ -22,13 +22,13 @@ returns-then-is_empty-clause-ok c =
     let b = c.args.self.now in
     let none : b.spec.steps ≡ [] =
     subst (λ (v : BranchValue). v.spec.steps ≡ []) c.self.view_is (c.is_empty.ensures.0 c.if-is_empty.true) in
-    ap (concatenation (Some c.args.items.now)) (no_steps b.spec b.number b.columns c.args.row none)
+    ap (concatenation (Some c.args.items.now)) (no_steps b.spec b.number b.columns c.args.row.now none)
     ∙ c.in_ok-push_made.ensures.ok
 
 pub returns-in_err-rows-clause-bad : goal.returns-in_err-rows-clause-bad
 returns-in_err-rows-clause-bad c =
     let b = c.args.self.now in
-    let row = c.args.row in
+    let row = c.args.row.now in
     let bad : c.in_err-rows.field-0.0 ≡ Bad → made_in_branch b.spec b.number b.columns row ≡ None = λ is_bad.
     through_steps b.spec b.number b.columns row None
     (subst (λ (v : BranchValue). chain_rows v.spec.steps v.columns row ≡ None) c.self.view_is
@@ -38,7 +38,7 @@ returns-in_err-rows-clause-bad c =
 pub returns-in_err-push_each-clause-bad : goal.returns-in_err-push_each-clause-bad
 returns-in_err-push_each-clause-bad c =
     let b = c.args.self.now in
-    let row = c.args.row in
+    let row = c.args.row.now in
     let rows = c.in_ok-rows.rows.items in
     let made = subst (λ (v : BranchValue). chain_rows v.spec.steps v.columns row ≡ Some rows) c.self.view_is
     c.in_ok-rows.ensures.ok in
@@ -51,7 +51,7 @@ returns-in_err-push_each-clause-bad c =
 pub returns-clause-ok : goal.returns-clause-ok
 returns-clause-ok c =
     let b = c.args.self.now in
-    let row = c.args.row in
+    let row = c.args.row.now in
     let rows = c.in_ok-rows.rows.items in
     let made = subst (λ (v : BranchValue). chain_rows v.spec.steps v.columns row ≡ Some rows) c.self.view_is
     c.in_ok-rows.ensures.ok in
