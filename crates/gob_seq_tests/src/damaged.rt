@@ -91,6 +91,26 @@ fn damage_names_the_file(rt: HostRuntime) -> Result<(), Fail> {
     Ok(())
 }
 
+/// Each front of a text but the whole, as an open sequence.
+fn check_cuts(rt: &impl Abort, alloc: Global, text: &'static [u8]) -> Result<(), Fail> {
+    for len in 0..text.len() {
+        let (front, _) = text.split_at(len);
+        check_damaged(
+            rt,
+            alloc,
+            &[("j/seq", front), ("j/stage/a", b"1"), ("j/stage/b", b"2")],
+            "j/seq",
+        )?;
+    }
+    Ok(())
+}
+
+/// Nothing is done of a sequence that lacks its end, though all that it moves is there.
+#[test]
+fn a_sequence_that_is_cut_is_damaged(rt: HostRuntime) -> Result<(), Fail> {
+    check_cuts(&rt, rt.alloc(), TWO_MOVES)
+}
+
 fn was_open<V: Volume>(alloc: Global, volume: &mut V) -> Result<bool, Fail> {
     match settle(alloc, volume, "j") {
         Ok(settled) => Ok(settled.was_open),

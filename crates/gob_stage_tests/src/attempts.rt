@@ -78,13 +78,44 @@ fn an_attempt_stages_its_files(rt: HostRuntime) -> Result<(), Fail> {
     )
 }
 
+/// The next attempt at a unit has a file of its own.
+fn stage_again(rt: &impl Abort, alloc: Global, volume: &mut MemVolume) -> Result<(), Fail> {
+    let mut attempt = Attempt::new(alloc, "j1", 0, 1)?;
+    attempt.append(volume, FIRST, b"z\n")?;
+    let staged = attempt.finish(volume)?;
+    let files = staged.as_slice();
+    assert_eq!(rt; files.len(), 1);
+    same_file(
+        rt,
+        &files[0],
+        "j1/stage/0-1/out/0/a.log@0-4.txt",
+        "j1/out/0/a.log@0-4.txt",
+    );
+    Ok(())
+}
+
+/// The third call of the volume fails. A crash takes of the first attempt's file, and nothing of the second one's.
 #[test]
-fn a_volume_that_fails_is_told(rt: HostRuntime) -> Result<(), Fail> {
-    let mut fails = Vec::new(rt.alloc());
-    fails.push(2)?;
-    let mut volume = MemVolume::new(rt.alloc(), fails);
-    let mut attempt = Attempt::new(rt.alloc(), "j1", 0, 0)?;
+fn an_attempt_that_fails_is_begun_anew(rt: HostRuntime) -> Result<(), Fail> {
+    let alloc = rt.alloc();
+    let mut volume = MemVolume::new(alloc, Vec::from_slice(alloc, &[2])?);
+    let mut attempt = Attempt::new(alloc, "j1", 0, 0)?;
     attempt.append(&mut volume, FIRST, b"x\n")?;
     assert!(&rt; attempt.append(&mut volume, FIRST, b"y\n") == Err(StageFault::Failed));
-    Ok(())
+    stage_again(&rt, alloc, &mut volume)?;
+    volume.crash(b"lost")?;
+    holds(
+        &rt,
+        alloc,
+        &mut volume,
+        "j1/stage/0-0/out/0/a.log@0-4.txt",
+        b"lost",
+    )?;
+    holds(
+        &rt,
+        alloc,
+        &mut volume,
+        "j1/stage/0-1/out/0/a.log@0-4.txt",
+        b"z\n",
+    )
 }
