@@ -5,20 +5,18 @@ use Rattle.std.specs.Str.{is_utf8, chars}
 use Rattle.std.proofs.lemmas.Str.{IsUtf8-from_is_utf8}
 use Rattle.gob_plan.specs.declared.plan.TurnRules.{TurnRules}
 use Rattle.gob_plan.specs.declared.units.Unit.{Unit as WorkUnit}
-use Rattle.gob_meaning.specs.Job.{plain_plan}
 use Rattle.gob_ledger.specs.Laws.{ProperUnit}
 use Rattle.gob_ledger.specs.Units.{same_unit}
 use Rattle.gob_ledger.proofs.Members.{in_cases, none_in}
 use Rattle.gob_task.specs.Task.{IsPullable}
 use Rattle.gob_task.specs.Turn.{TurnRulesValue}
 use Rattle.gob_turns.specs.Asked.{MayHaveTurns}
-use Rattle.gob_turns_tests.specs.Units.{two_units, unit_to}
+use Rattle.gob_turns_tests.specs.declared.kinds.Lines.TheVariants.{Plain}
+use Rattle.gob_turns_tests.specs.Given.{rules_with, turns_given, two_units, unit_to}
+use Rattle.gob_turns_tests.specs.Plans.{plan_for}
 
 abbrev pub rules_given : TurnRulesValue
-rules_given = record { job = codes "j"; plan = plain_plan; piece = 3; max_retries = 1 }
-
-abbrev pub turns_given : TurnRules
-turns_given = record { slots = 2; piece = 3; schedule = 1 ∷ 0 ∷ [] }
+rules_given = rules_with (plan_for Plain) 3
 
 each_of_two : (P : WorkUnit → Type 0) → P (unit_to (codes "a.log") 8) → P (unit_to (codes "b.log") 5)
     → (u : WorkUnit) → Contains two_units u → P u

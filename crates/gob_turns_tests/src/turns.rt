@@ -1,90 +1,277 @@
 //! Which pulls a run makes, and which units it gives up.
 
-use crate::given::{Ran, run};
-use gob_io::Pulled;
-use gob_plan::{Cause, UnitResult};
-use std::alloc::{AllocError, Global};
+ghost use Rattle.std.specs.Prelude.{◌≡◌, IfOk};
+ghost use Rattle.gob_meaning.specs.Plans.{is_fitting};
+ghost use Rattle.gob_turns.specs.Asked.{MayHaveTurns};
+ghost use Rattle.gob_turns_tests.specs.Given.{rules_with, turns_given, two_units};
+ghost use Rattle.gob_turns_tests.specs.Plans.{plan_for};
+
+use crate::compare::{same_number, same_pull, same_truth};
+use crate::given::{rules_of, source_of, unit_of};
+use crate::kinds::Lines;
+use crate::plans::plan_of;
+use gob_io::{MemSource, Pulled};
+use gob_plan::{Cause, List, NoMemory, Plan, TurnRules, Unit, UnitResult};
+use gob_task::TaskRules;
+use gob_turns::{TurnsFault, take_turns};
+use gob_volume::MemVolume;
+use std::alloc::Global;
 use std::process::Abort;
 use std::test::Fail;
 
-/// For each set of the first four turns that fail, as bits: how many turns there are, and whether the first unit and
-/// the second are given up.
-const CASES: [(u64, bool, bool); 16] = [
-    (5, false, false),
-    (6, false, false),
-    (6, false, false),
-    (7, false, false),
-    (7, false, false),
-    (5, false, true),
-    (8, false, false),
-    (6, false, true),
-    (7, false, false),
-    (8, false, false),
-    (4, true, false),
-    (5, true, false),
-    (9, false, false),
-    (7, false, true),
-    (6, true, false),
-    (4, true, true),
+/// A pull: its partition, its offset, and how many bytes it asks for.
+type Pull = (&'static str, u64, u64);
+
+const A0: Pull = ("a.log", 0, 3);
+
+const A3: Pull = ("a.log", 3, 3);
+
+const A6: Pull = ("a.log", 6, 2);
+
+const B0: Pull = ("b.log", 0, 3);
+
+const B3: Pull = ("b.log", 3, 2);
+
+/// The turns that fail, the pulls that are answered, and how many records the first unit and the second have, which is
+/// none where it is given up.
+#[derive(Clone, Copy)]
+struct Case {
+    fails: &'static [u64],
+    pulls: &'static [Pull],
+    first: Option<u64>,
+    second: Option<u64>,
+}
+
+const BOTH: Case = Case {
+    fails: &[],
+    pulls: &[B0, A0, B3, A3, A6],
+    first: Some(2),
+    second: Some(2),
+};
+
+/// Each list of turns that fail among the first four.
+const CASES: [Case; 16] = [
+    BOTH,
+    Case {
+        fails: &[0],
+        pulls: &[A0, B0, A3, B3, A6],
+        ..BOTH
+    },
+    Case {
+        fails: &[1],
+        pulls: &[B0, B3, A0, A3, A6],
+        ..BOTH
+    },
+    Case {
+        fails: &[0, 1],
+        ..BOTH
+    },
+    Case {
+        fails: &[2],
+        pulls: &[B0, A0, A3, B0, A6, B3],
+        ..BOTH
+    },
+    Case {
+        fails: &[0, 2],
+        pulls: &[A0, A3, A6],
+        second: None,
+        ..BOTH
+    },
+    Case {
+        fails: &[1, 2],
+        pulls: &[B0, A0, B0, A3, B3, A6],
+        ..BOTH
+    },
+    Case {
+        fails: &[0, 1, 2],
+        pulls: &[A0, A3, A6],
+        second: None,
+        ..BOTH
+    },
+    Case {
+        fails: &[3],
+        pulls: &[B0, A0, B3, A0, A3, A6],
+        ..BOTH
+    },
+    Case {
+        fails: &[0, 3],
+        pulls: &[A0, B0, B3, A0, A3, A6],
+        ..BOTH
+    },
+    Case {
+        fails: &[1, 3],
+        pulls: &[B0, B3],
+        first: None,
+        ..BOTH
+    },
+    Case {
+        fails: &[0, 1, 3],
+        pulls: &[B0, B3],
+        first: None,
+        ..BOTH
+    },
+    Case {
+        fails: &[2, 3],
+        pulls: &[B0, A0, B0, A0, B3, A3, A6],
+        ..BOTH
+    },
+    Case {
+        fails: &[0, 2, 3],
+        pulls: &[A0, A0, A3, A6],
+        second: None,
+        ..BOTH
+    },
+    Case {
+        fails: &[1, 2, 3],
+        pulls: &[B0, B0, B3],
+        first: None,
+        ..BOTH
+    },
+    Case {
+        fails: &[0, 1, 2, 3],
+        pulls: &[],
+        first: None,
+        second: None,
+    },
 ];
 
-fn same_number(rt: &impl Abort, found: u64, wanted: u64) {
-    assert_eq!(rt; found, wanted);
+/// What a run left.
+#[derive(Drop)]
+struct Ran {
+    source: MemSource,
+    results: List<UnitResult>,
+    failed: List<u128>,
 }
 
-fn same_pull(rt: &impl Abort, pull: &Pulled, part: &str, at: u64, len: u64) {
-    assert!(rt; pull.part.as_str() == part);
-    same_number(rt, pull.at, at);
-    same_number(rt, pull.len, len);
+/// The turns of two units; the pulls with these numbers fail.
+fn run(alloc: Global, fails: &[u64]) -> Result<Ran, TurnsFault> {
+    let plan = plan_of(alloc, Lines::Plain)?;
+    run_plan(alloc, &plan, fails)
 }
 
-fn gave_up(of_unit: &UnitResult) -> bool {
+fn run_plan(alloc: Global, plan: &Plan, fails: &[u64]) -> Result<Ran, TurnsFault>
+    requires plain { plan.now ≡ plan_for Lines.Plain }
+    requires fits { is_fitting plan.now ≡ true }
+{
+    let rules = rules_of(alloc, plan, 3)?;
+    run_rules(alloc, &rules, fails)
+}
+
+fn run_rules(alloc: Global, rules: &TaskRules, fails: &[u64]) -> Result<Ran, TurnsFault>
+    requires { rules.now ≡ rules_with (plan_for Lines.Plain) 3 }
+{
+    let turns = turns(alloc)?;
+    let units = units(alloc)?;
+    run_units(alloc, rules, &turns, units.as_slice(), fails)
+}
+
+fn run_units(
+    alloc: Global,
+    rules: &TaskRules,
+    turns: &TurnRules,
+    units: &[Unit],
+    fails: &[u64],
+) -> Result<Ran, TurnsFault>
+    requires { MayHaveTurns rules.now turns.now units.now }
+{
+    let mut source = source_of(alloc, b"abc\ndef\n", b"gh\ni\n", fails)?;
+    let mut volume = MemVolume::new(alloc, Vec::new(alloc));
+    let mut failed = List::new(alloc);
+    let results = take_turns(
+        alloc,
+        rules,
+        turns,
+        units,
+        &mut source,
+        &mut volume,
+        &mut failed,
+    )?;
+    Ok(Ran {
+        source,
+        results,
+        failed,
+    })
+}
+
+fn turns(alloc: Global) -> Result<TurnRules, NoMemory>
+    ensures { IfOk result (λ r. r ≡ turns_given) }
+{
+    let mut schedule = List::new(alloc);
+    schedule.push(1)?;
+    schedule.push(0)?;
+    Ok(TurnRules {
+        slots: 2,
+        piece: 3,
+        schedule,
+    })
+}
+
+fn units(alloc: Global) -> Result<Vec<Unit>, NoMemory>
+    ensures { IfOk result (λ v. v.items ≡ two_units) }
+{
+    let mut units = Vec::new(alloc);
+    units.push(unit_of(alloc, "a.log", 8)?)?;
+    units.push(unit_of(alloc, "b.log", 5)?)?;
+    Ok(units)
+}
+
+/// How many records a unit has, which is none where it is given up.
+fn records(of_unit: &UnitResult) -> Option<u64> {
     match of_unit {
-        UnitResult::Failed { cause } => *cause == Cause::Fault,
-        UnitResult::Good { .. } => false,
-    }
-}
-
-/// The numbers of the bits that are set among the first four.
-fn numbers(alloc: Global, bits: usize) -> Result<Vec<u64>, AllocError> {
-    let mut numbers = Vec::new(alloc);
-    for (number, mask) in [(0, 1), (1, 2), (2, 4), (3, 8)] {
-        if bits & mask != 0 {
-            numbers.push(number)?;
+        UnitResult::Good { counts, .. } => Some(counts.records),
+        UnitResult::Failed { cause } => {
+            if *cause == Cause::Fault {
+                None
+            } else {
+                Some(0)
+            }
         }
     }
-    Ok(numbers)
 }
 
-fn same_case(rt: &impl Abort, ran: &Ran, case: (u64, bool, bool)) {
-    let results = ran.results.as_slice();
-    let pulls = ran.source.pull_list().len() as u64;
-    same_number(rt, pulls.saturating_add(ran.failed.len() as u64), case.0);
-    assert!(rt; results.len() == 2);
-    assert!(rt; gave_up(&results[0]) == case.1);
-    assert!(rt; gave_up(&results[1]) == case.2);
+fn check_pull(rt: &impl Abort, found: &Pulled, wanted: Pull) {
+    let (part, at, len) = wanted;
+    same_pull(rt, found, part, at, len);
 }
 
-#[test]
-fn units_are_pulled_in_turn_by_the_schedule(rt: HostRuntime) -> Result<(), Fail> {
-    let ran = run(rt.alloc(), Vec::new(rt.alloc()))?;
-    let pulls = ran.source.pull_list();
-    assert_eq!(&rt; pulls.len(), 5);
-    same_pull(&rt, &pulls[0], "b.log", 0, 3);
-    same_pull(&rt, &pulls[1], "a.log", 0, 3);
-    same_pull(&rt, &pulls[2], "b.log", 3, 2);
-    // The first unit is alone now.
-    same_pull(&rt, &pulls[3], "a.log", 3, 3);
-    same_pull(&rt, &pulls[4], "a.log", 6, 2);
+fn check_pulls(rt: &impl Abort, found: &[Pulled], wanted: &[Pull]) {
+    for i in 0..found.len() {
+        if i < wanted.len() {
+            check_pull(rt, &found[i], wanted[i]);
+        }
+    }
+    same_number(rt, found.len() as u64, wanted.len() as u64);
+}
+
+fn check_failed(rt: &impl Abort, found: &[u128], wanted: &[u64]) {
+    for i in 0..found.len() {
+        if i < wanted.len() {
+            same_truth(rt, found[i] == u128::from(wanted[i]), true);
+        }
+    }
+    same_number(rt, found.len() as u64, wanted.len() as u64);
+}
+
+fn check_results(rt: &impl Abort, found: &[UnitResult], first: Option<u64>, second: Option<u64>) {
+    match found {
+        [a, b] => same_truth(rt, records(a) == first && records(b) == second, true),
+        _ => same_truth(rt, false, true),
+    }
+}
+
+fn check(rt: &impl Abort, alloc: Global, case: &Case) -> Result<(), Fail> {
+    let ran = run(alloc, case.fails)?;
+    check_pulls(rt, ran.source.pull_list(), case.pulls);
+    check_failed(rt, ran.failed.as_slice(), case.fails);
+    check_results(rt, ran.results.as_slice(), case.first, case.second);
     Ok(())
 }
 
+/// Units are pulled by the schedule; one whose turn failed begins anew, and is given up where it fails twice.
 #[test]
-fn a_unit_is_given_up_where_it_fails_twice(rt: HostRuntime) -> Result<(), Fail> {
-    for (bits, case) in CASES.into_iter().enumerate() {
-        let fails = numbers(rt.alloc(), bits)?;
-        let ran = run(rt.alloc(), fails)?;
-        same_case(&rt, &ran, case);
+fn units_take_turns_whichever_fail(rt: HostRuntime) -> Result<(), Fail> {
+    for case in &CASES {
+        check(&rt, rt.alloc(), case)?;
     }
     Ok(())
 }

@@ -1,41 +1,63 @@
 //! Units that are worked on to their end.
 
-ghost use Rattle.std.specs.Prelude.{◌≡◌, ◌<◌, IfOk};
+ghost use Rattle.std.specs.Prelude.{◌≡◌, ◌<◌, true, IfOk};
+ghost use Rattle.gob_meaning.specs.Plans.{is_fitting};
 ghost use Rattle.gob_stage.specs.Attempt.{AreThere};
 ghost use Rattle.gob_task.specs.Bench.{FitsBench};
 ghost use Rattle.gob_task.specs.Task.{IsPullable};
 ghost use Rattle.gob_task.specs.Turn.{StandsAfter};
-ghost use Rattle.gob_task_tests.specs.Turns.{ends};
+ghost use Rattle.gob_turns_tests.specs.Turns.{ends};
 ghost use Rattle.gob_volume.specs.MemVolume.{told_by};
 
-use crate::given::{source_of, unit_to};
+use crate::given::{first_bytes, rules_of, source_of};
+use crate::kinds::Lines;
+use crate::plans::plan_of;
 use gob_io::MemSource;
-use gob_plan::{Unit, UnitResult};
+use gob_plan::{Plan, Unit, UnitResult};
 use gob_task::{Bench, Task, TaskRules, Turn, TurnFault};
 use gob_volume::MemVolume;
 use std::alloc::Global;
 
+/// A unit: what is done with its lines, its bytes, of which it has so many and one at least, the numbers of the pulls
+/// that fail, and after how many changing calls each one of the volume fails.
+#[derive(Clone, Copy)]
+pub(crate) struct Work {
+    pub lines: Lines,
+    pub bytes: &'static [u8],
+    pub hi: u64,
+    pub fails: &'static [u64],
+    pub calls: u64,
+}
+
 /// What a unit came to, which is nothing behind more than 64 turns, and its devices.
 #[derive(Drop)]
-pub struct Ran {
+pub(crate) struct Ran {
     pub result: Option<UnitResult>,
     pub source: MemSource,
     pub volume: MemVolume,
 }
 
-/// The first so many bytes of these are worked on, as unit 7; the pulls with these numbers fail.
-pub fn run(
-    alloc: Global,
-    rules: &TaskRules,
-    hi: u64,
-    bytes: &[u8],
-    fails: Vec<u64>,
-) -> Result<Ran, TurnFault>
-    requires { 0 < hi }
+/// A unit is worked on as unit 7, in pieces of this length and with one retry.
+pub(crate) fn run(alloc: Global, work: &Work, piece: u32) -> Result<Ran, TurnFault>
+    requires { 0 < piece }
 {
-    let unit = unit_to(alloc, hi)?;
-    let mut source = source_of(alloc, bytes, fails)?;
+    let plan = plan_of(alloc, work.lines)?;
+    run_plan(alloc, &plan, work, piece)
+}
+
+fn run_plan(alloc: Global, plan: &Plan, work: &Work, piece: u32) -> Result<Ran, TurnFault>
+    requires fits { is_fitting plan.now ≡ true }
+    requires piece { 0 < piece }
+{
+    let rules = rules_of(alloc, plan, piece)?;
+    run_rules(alloc, &rules, work)
+}
+
+fn run_rules(alloc: Global, rules: &TaskRules, work: &Work) -> Result<Ran, TurnFault> {
+    let unit = first_bytes(alloc, work.hi)?;
+    let mut source = source_of(alloc, work.bytes, b"", work.fails)?;
     let mut volume = MemVolume::new(alloc, Vec::new(alloc));
+    volume.fuse(work.calls);
     let result = worked(alloc, rules, &unit, &mut source, &mut volume)?;
     Ok(Ran {
         result,

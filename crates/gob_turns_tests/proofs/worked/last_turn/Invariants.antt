@@ -3,7 +3,7 @@ use Rattle.gob_task.specs.Bench.{FitsBench}
 use Rattle.gob_task.specs.Turn.{StandsAfter}
 use Rattle.gob_task.specs.declared.task.Turn.TheVariants.{Going}
 use Rattle.gob_volume.specs.MemVolume.{told_by}
-use Rattle.gob_task_tests.proofs.worked.last_turn.Given as goal
+use Rattle.gob_turns_tests.proofs.worked.last_turn.Given as goal
 
 abbrev pub invariant-loop : goal.invariant-loop
 invariant-loop l = record {
