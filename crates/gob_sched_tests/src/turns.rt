@@ -33,6 +33,18 @@ fn same_unit(rt: &impl Abort, found: Option<u32>, wanted: Option<u32>) {
     assert_eq!(rt; found, wanted);
 }
 
+/// The unit whose turn it is ends with this turn.
+#[tactic(auto, using(crate::proofs::Active::is_active))]
+fn last_turn(core: &mut Core) -> Option<u32> {
+    match core.pick() {
+        Some(unit) => {
+            core.task_ended(unit);
+            Some(unit)
+        }
+        None => None,
+    }
+}
+
 #[test]
 fn units_take_turns_by_the_schedule(rt: HostRuntime) -> Result<(), Fail> {
     let rules = rules(rt.alloc(), 2, 0, 1, 0)?;
@@ -45,6 +57,19 @@ fn units_take_turns_by_the_schedule(rt: HostRuntime) -> Result<(), Fail> {
     core.turn_done();
     // The schedule begins anew.
     same_unit(&rt, core.pick(), Some(0));
+    Ok(())
+}
+
+#[test]
+fn a_unit_that_waits_takes_the_slot_of_one_that_ended(rt: HostRuntime) -> Result<(), Fail> {
+    let rules = rules(rt.alloc(), 2, 0, 3, 2)?;
+    let mut core = Core::start(rt.alloc(), 3, &rules)?;
+    same_unit(&rt, last_turn(&mut core), Some(0));
+    same_unit(&rt, core.pick(), Some(2));
+    core.turn_done();
+    same_unit(&rt, last_turn(&mut core), Some(1));
+    same_unit(&rt, last_turn(&mut core), Some(2));
+    same_unit(&rt, core.pick(), None);
     Ok(())
 }
 
