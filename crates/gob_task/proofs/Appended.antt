@@ -1,6 +1,6 @@
 -- Appends to an attempt's files, one after the other.
-use Rattle.std.proofs.Common.{◌≡◌, ℕ, ◌≤◌, Bool, true, List, [], ◌∷◌, ◌++◌, map, refl, sym, ap, subst, ◌∙◌, IfSome}
-use Rattle.std.proofs.Common.{arith}
+use Rattle.std.proofs.Common.{◌≡◌, ℕ, ◌≤◌, Bool, true, List, [], ◌∷◌, ◌++◌, map, refl, sym, ap, subst, ◌∙◌, IfSome, None, Some}
+use Rattle.std.proofs.Common.{arith, option_map}
 use Rattle.std.specs.declared.cmp.Ordering.{Ordering}
 use Rattle.std.specs.declared.cmp.Ordering.TheVariants.{Less, Equal, Greater}
 use Rattle.std.specs.declared.option.Option.{Option}
@@ -14,9 +14,9 @@ use Rattle.gob_device.proofs.Trail.{along_nothing, along_then, both_same, both_t
 use Rattle.gob_recovery.specs.Commits.{OnlyBelow}
 use Rattle.gob_recovery.specs.Sequence.{is_file_name}
 use Rattle.gob_stage.specs.Attempt.{AreThere, AttemptValue, HoldsStaged, after_begin, with_appended, with_target}
-use Rattle.gob_stage.specs.Stages.{HoldsMore}
+use Rattle.gob_stage.specs.Stages.{HoldsMore, after_staging}
 use Rattle.gob_stage.proofs.Names.{names_with}
-use Rattle.gob_task.specs.Staging.{Appended, Appends, HoldsAppends, after_appends, with_appends}
+use Rattle.gob_task.specs.Staging.{Appended, Appends, HoldsAppends, after_appends, after_stagings, with_appends}
 
 after_both : (es fs : Appends) (a : AttemptValue) → after_appends (es ++ fs) a ≡ after_appends fs (after_appends es a)
 unfolding after_appends
@@ -71,21 +71,47 @@ spelled_after (e ∷ es) a spelled all =
 
 -- ---- calls
 
+mapped_nothing : (a : AttemptValue) (o : Option Disk) → o ≡ option_map (after_stagings [] a) o
+unfolding after_stagings
+mapped_nothing a None = refl
+mapped_nothing a (Some d) = refl
+
+mapped_one : (a : AttemptValue) (name bytes : List ℕ) (o : Option Disk)
+    → option_map (after_staging a name bytes) o ≡ option_map (after_stagings ((name, bytes) ∷ []) a) o
+unfolding after_stagings
+mapped_one a name bytes None = refl
+mapped_one a name bytes (Some d) = refl
+
+staged_both : (es fs : Appends) (a : AttemptValue) (d : Disk)
+    → after_stagings (es ++ fs) a d ≡ after_stagings fs (after_appends es a) (after_stagings es a d)
+unfolding after_appends after_stagings
+staged_both [] fs a d = refl
+staged_both (e ∷ es) fs a d = staged_both es fs (after_begin e.0 a) (after_staging a e.0 e.1 d)
+
+mapped_both : (es fs : Appends) (a : AttemptValue) (o : Option Disk)
+    → option_map (after_stagings fs (after_appends es a)) (option_map (after_stagings es a) o)
+    ≡ option_map (after_stagings (es ++ fs) a) o
+mapped_both es fs a None = refl
+mapped_both es fs a (Some d) = ap Some (sym (staged_both es fs a d))
+
 pub append_nothing : (a : AttemptValue) (o : Option Disk) → Appended [] a a o o
 unfolding after_appends with_appends
 append_nothing a o = record {
   attempt = refl;
+  calls = mapped_nothing a o;
   spelled = refl;
   holds = both_same (HoldsAppends [] a) (λ d contents held. held) o;
   there = λ there. there;
 }
 
 pub append_one : (a b : AttemptValue) (name bytes : List ℕ) (old new : Option Disk) → is_file_name name ≡ true
-    → b ≡ after_begin name a → Both (HoldsMore a name bytes) old new → IfSome new (λ d. AreThere b d.files)
+    → b ≡ after_begin name a → new ≡ option_map (after_staging a name bytes) old
+    → Both (HoldsMore a name bytes) old new → IfSome new (λ d. AreThere b d.files)
     → Appended ((name, bytes) ∷ []) a b old new
 unfolding after_appends with_appends
-append_one a b name bytes old new named is holds there = record {
+append_one a b name bytes old new named is called holds there = record {
   attempt = is;
+  calls = called ∙ mapped_one a name bytes old;
   spelled = and_from (is_file_name name) true named refl;
   holds = holds;
   there = λ _. there;
@@ -99,6 +125,9 @@ append_then : (es fs : Appends) (a b c : AttemptValue) (old mid new : Option Dis
     → Appended fs b c mid new → Appended (es ++ fs) a c old new
 append_then es fs a b c old mid new first second = record {
   attempt = second.attempt ∙ same;
+  calls = second.calls
+      ∙ (ap (λ v. option_map (after_stagings fs v) mid) first.attempt
+      ∙ (ap (option_map (after_stagings fs (after_appends es a))) first.calls ∙ mapped_both es fs a old));
   spelled = subst (λ ns. list_all is_file_name ns ≡ true) (sym (map-append (λ (e : List ℕ × List ℕ). e.0) es fs))
       (list_all-append is_file_name (map (λ e. e.0) es) (map (λ e. e.0) fs)
       ∙ and_from (list_all is_file_name (map (λ e. e.0) es)) (list_all is_file_name (map (λ e. e.0) fs)) first.spelled

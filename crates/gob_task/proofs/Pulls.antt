@@ -28,8 +28,8 @@ pub gone_taken : (rules : TurnRulesValue) (t u : TaskValue) (given : List ℕ) (
     → IfSome old.supply
     (λ s. given ≡ bytes_from s.held t.unit.part (t.unit.lo + t.machine.seen) (asked_for rules.piece t))
     → new.supply ≡ option_map (with_pull (pull_of rules.piece t)) old.supply → new.source_faults ≡ old.source_faults
-    → AnswerTaken rules t u given (turn.Failed Gone) old new
-gone_taken rules t u given old new less told pulled same = record {
+    → new.disk ≡ old.disk → AnswerTaken rules t u given (turn.Failed Gone) old new
+gone_taken rules t u given old new less told pulled same unchanged = record {
   few = omega (arith, less);
   told = told;
   pulled = pulled;
@@ -38,6 +38,8 @@ gone_taken rules t u given old new less told pulled same = record {
       (λ b. cond b (ended (failed Gone)) (end_of_bytes rules.plan t.unit (fed ++ given)))
       (lt-ltb (length given) (asked_for rules.piece t) less);
   goes_on = λ fed stands. tt;
+  files = λ all fed stands. absurd (omega (arith, less, all));
+  gone = λ _. unchanged;
 }
 
 -- all of them came
@@ -58,6 +60,8 @@ all_taken rules t u given r old new all told pulled same taken = record {
       (λ b. cond b (ended (failed Gone)) (end_of_bytes rules.plan t.unit (fed ++ given)))
       (le-ltb (length given) (asked_for rules.piece t) (omega (arith, all))))) (taken fed stands).ends;
   goes_on = λ fed stands. (taken fed stands).goes_on;
+  files = λ _ fed stands. (taken fed stands).files;
+  gone = λ less. absurd (omega (arith, all, less));
 }
 
 pub given_up : (retries failures : ℕ) → retries ≤ failures → end_of_failure retries failures ≡ ended (failed Fault)
@@ -116,7 +120,8 @@ short_turn rules t asked at n part front old new a b less unchanged same = recor
     gone_taken rules t t (take n front) old new
         (omega (arith, less, a.number, b.room, length-take n front))
         (told_front old.supply n asked at front part rules t a b.bytes)
-        (b.pulled ∙ ap (λ p. option_map (with_pull p) old.supply) (same_pull rules t asked at part a)) b.source,
+        (b.pulled ∙ ap (λ p. option_map (with_pull p) old.supply) (same_pull rules t asked at part a)) b.source
+        unchanged,
   );
   below = subst (λ d. Along (OnlyBelow t.staged.folder) old.disk d) (sym unchanged)
       (along_nothing (OnlyBelow t.staged.folder) old.disk);

@@ -1,7 +1,7 @@
 -- What the buffers of slots hold, as appends.
 use Rattle.std.proofs.Common.{◌≡◌, ◌≢◌, ℕ, zero, suc, ◌+◌, ◌/◌, ◌%◌, ◌<◌, ◌≤◌, ◌^◌, Bool, true, false, cond, nat_eq}
 use Rattle.std.proofs.Common.{List, [], ◌∷◌, ◌++◌, length, map, flat_map, take, get_or, refl, sym, ap, subst, ◌∙◌, None}
-use Rattle.std.proofs.Common.{Some, IfSome, arith, add-one}
+use Rattle.std.proofs.Common.{Some, IfSome, option_map, arith, add-one}
 use Rattle.std.specs.declared.option.Option.{Option}
 use Rattle.std.specs.List.{enumerate_from, list_all, slice_get}
 use Rattle.std.proofs.lemmas.Bool.{and_parts, eqb-false, eqb-true}
@@ -19,7 +19,7 @@ use Rattle.gob_pipeline.specs.Made.{is_place, is_place_byte, is_placed, target_i
 use Rattle.gob_device.specs.Disk.{Both, Disk}
 use Rattle.gob_recovery.specs.Sequence.{is_file_name}
 use Rattle.gob_stage.specs.Attempt.{AreThere, AttemptValue, after_begin}
-use Rattle.gob_stage.specs.Stages.{HoldsMore}
+use Rattle.gob_stage.specs.Stages.{HoldsMore, after_staging}
 use Rattle.gob_task.specs.Task.{name_in}
 use Rattle.gob_task.specs.Staging.{Appended, AreFilled, append_of, appends_of}
 use Rattle.gob_task.proofs.Appended.{append_nothing, append_one}
@@ -214,11 +214,11 @@ filled_some slot place (b ∷ bs) some = refl
 -- the bytes of a place are appended
 pub place_appended : (plan : Plan) (u : WorkUnit) (slot : ℕ) (place bytes name sent : List ℕ) (a b : AttemptValue)
     (old new : Option Disk) → bytes ≢ [] → name ≡ name_in plan u (target_in slot place) → sent ≡ bytes
-    → is_file_name name ≡ true → b ≡ after_begin name a → Both (HoldsMore a name sent) old new
-    → IfSome new (λ d. AreThere b d.files)
+    → is_file_name name ≡ true → b ≡ after_begin name a → new ≡ option_map (after_staging a name sent) old
+    → Both (HoldsMore a name sent) old new → IfSome new (λ d. AreThere b d.files)
     → Appended (appends_of plan u (filled_place slot (place, bytes))) a b old new
-place_appended plan u slot place bytes name sent a b old new some called same spelled begun holds there =
-    subst (λ es. Appended es a b old new) whole (append_one a b name sent old new spelled begun holds there)
+place_appended plan u slot place bytes name sent a b old new some called same spelled begun calls holds there =
+    subst (λ es. Appended es a b old new) whole (append_one a b name sent old new spelled begun calls holds there)
   where
     whole : (name, sent) ∷ [] ≡ appends_of plan u (filled_place slot (place, bytes))
     whole =

@@ -18,8 +18,9 @@ use Rattle.gob_pipeline.specs.Made.{AreEmpty, AreSlots, Buffers, filled}
 use Rattle.gob_pipeline.proofs.Filled.{pieces_fill}
 use Rattle.gob_stage.specs.Attempt.{AttemptValue, HoldsStaged}
 use Rattle.gob_task.specs.Staging.{Appended, Appends, HoldsAppends, appends_of, with_appends}
-use Rattle.gob_task.specs.Task.{AreSent, HoldsSent, StandsBehind, TaskValue, WasFedIn, unit_length, unit_sends}
-use Rattle.gob_task.specs.Turn.{BytesTaken, GoesOn, IsFed, Tells, TurnRulesValue, end_of_bytes}
+use Rattle.gob_task.specs.Task.{AreSent, HoldsSent, HoldsToStop, StandsBehind, TaskValue, WasFedIn, unit_length}
+use Rattle.gob_task.specs.Task.{unit_sends}
+use Rattle.gob_task.specs.Turn.{BytesTaken, FilesKept, GoesOn, IsFed, Tells, TurnRulesValue, end_of_bytes}
 use Rattle.gob_task.specs.declared.task.Turn.{Turn}
 use Rattle.gob_task.specs.declared.task.Turn.TheVariants as turn
 use Rattle.gob_task.proofs.Appended.{after_folder, after_job, names_after, spelled_after}
@@ -52,6 +53,69 @@ pub record PieceTaken (rules : TurnRulesValue) (t : TaskValue) (m : MachineValue
   pub short : length after ≤ 2 ^ 32
   pub appended : Appended (appends_of rules.plan t.unit (filled after)) t.staged a old new
   pub within : t.machine.seen + length piece ≤ unit_length t.unit
+
+-- what the pieces have sent before a stop is in the contents, where it was before the last piece
+piece_sent : (rules : TurnRulesValue) (t : TaskValue) (m : MachineValue) (a : AttemptValue)
+    (fed piece : List ℕ) (after : Buffers) (old new : Option Disk) → PieceTaken rules t m a fed piece after old new
+    → (contents : Table (List ℕ)) → AreSent rules.plan t.unit (unit_sends rules.plan t.unit fed) contents
+    → AreSent rules.plan t.unit (sent_before_stop rules.plan t.unit.lo (fed ++ piece))
+    (with_appends (appends_of rules.plan t.unit (filled after)) contents)
+piece_sent rules t m a fed piece after old new p contents sent =
+    sent_alike plan t.unit (unit_sends plan t.unit fed ++ filled after) (sent_before_stop plan t.unit.lo (fed ++ piece))
+    (with_appends (appends_of plan t.unit (filled after)) contents) alike
+    (sent_all plan t.unit p.range (filled after) (unit_sends plan t.unit fed) contents (all_filled after p.short
+    p.slots)
+    (placed_of_unit plan t.unit fed p.few) sent)
+  where
+    plan : Plan
+    plan = rules.plan
+
+    w : WasFedIn rules.job rules.plan t fed
+    w = p.stands.was
+
+    sends : Sends plan t.machine.lo fed piece p.before after
+    sends = (p.took.goes fed w.known).1
+
+    none_before : stop_of plan (unit_fold plan t.unit.lo fed) ≡ None
+    none_before =
+        ap (λ l. stop_of plan (unit_fold plan l fed)) (sym w.lo) ∙ (sym w.known.stop ∙ w.goes_on)
+
+    joined : sent_before_stop plan t.unit.lo (fed ++ piece) ≡ unit_sends plan t.unit fed ++ sends.given
+    joined =
+        subst (λ l. sent_before_stop plan l (fed ++ piece) ≡ sent_before_stop plan l fed ++ sends.given) w.lo sends.all
+        ∙ ap (λ ds. ds ++ sends.given) (sent_whole plan t.unit.lo fed none_before)
+
+    alike : (s : Target) → sent_to s (unit_sends plan t.unit fed ++ filled after)
+        ≡ sent_to s (sent_before_stop plan t.unit.lo (fed ++ piece))
+    alike s =
+        sent-append s (unit_sends plan t.unit fed) (filled after)
+        ∙ (ap (λ bs. sent_to s (unit_sends plan t.unit fed) ++ bs)
+        (sym (pieces_fill p.before after sends.given p.empty sends.added p.slots s))
+        ∙ (sym (sent-append s (unit_sends plan t.unit fed) sends.given) ∙ ap (sent_to s) (sym joined)))
+
+files_kept : (rules : TurnRulesValue) (t : TaskValue) (m : MachineValue) (a : AttemptValue)
+    (fed piece : List ℕ) (after : Buffers) (old new : Option Disk) → PieceTaken rules t m a fed piece after old new
+    → FilesKept rules t (with_both t m a) fed piece old new
+files_kept rules t m a fed piece after old new p = record {
+  unit = refl;
+  folder = ap (λ v. v.folder) p.appended.attempt ∙ after_folder es t.staged;
+  holds = both_map (HoldsAppends es t.staged)
+      (λ d e. HoldsSent rules.plan t fed d.files → HoldsToStop rules.plan (with_both t m a) (fed ++ piece) e.files) held
+      old new p.appended.holds;
+  appends = record { buffers = after; slots = p.slots; calls = p.appended.calls };
+}
+  where
+    es : Appends
+    es = appends_of rules.plan t.unit (filled after)
+
+    held : (d e : Disk) → HoldsAppends es t.staged d e → HoldsSent rules.plan t fed d.files
+        → HoldsToStop rules.plan (with_both t m a) (fed ++ piece) e.files
+    held d e appends h = record {
+      contents = with_appends es h.contents;
+      sent = piece_sent rules t m a fed piece after old new p h.contents h.sent;
+      holds = subst (λ v. HoldsStaged v (with_appends es h.contents) e.files) (sym p.appended.attempt)
+          (appends h.contents h.holds);
+    }
 
 -- no line of these bytes stops the unit
 pub record OnwardTaken (rules : TurnRulesValue) (t u : TaskValue) (fed piece : List ℕ) (old new : Option Disk)
@@ -105,40 +169,15 @@ onward rules t m a fed piece after old new p none = record {
     known : WasFed plan m (fed ++ piece)
     known = (p.took.goes fed w.known).0
 
-    sends : Sends plan t.machine.lo fed piece p.before after
-    sends = (p.took.goes fed w.known).1
-
     lo : m.lo ≡ t.unit.lo
     lo = p.took.lo ∙ w.lo
-
-    none_before : stop_of plan (unit_fold plan t.unit.lo fed) ≡ None
-    none_before =
-        ap (λ l. stop_of plan (unit_fold plan l fed)) (sym w.lo) ∙ (sym w.known.stop ∙ w.goes_on)
-
-    -- all that is sent
-    joined : unit_sends plan t.unit (fed ++ piece) ≡ unit_sends plan t.unit fed ++ sends.given
-    joined =
-        sym (sent_whole plan t.unit.lo (fed ++ piece) none)
-        ∙ (subst (λ l. sent_before_stop plan l (fed ++ piece) ≡ sent_before_stop plan l fed ++ sends.given) w.lo
-        sends.all
-        ∙ ap (λ ds. ds ++ sends.given) (sent_whole plan t.unit.lo fed none_before))
-
-    alike : (s : Target) → sent_to s (unit_sends plan t.unit fed ++ filled after)
-        ≡ sent_to s (unit_sends plan t.unit (fed ++ piece))
-    alike s =
-        sent-append s (unit_sends plan t.unit fed) (filled after)
-        ∙ (ap (λ bs. sent_to s (unit_sends plan t.unit fed) ++ bs)
-        (sym (pieces_fill p.before after sends.given p.empty sends.added p.slots s))
-        ∙ (sym (sent-append s (unit_sends plan t.unit fed) sends.given) ∙ ap (sent_to s) (sym joined)))
 
     sent_now : (contents : Table (List ℕ)) → AreSent plan t.unit (unit_sends plan t.unit fed) contents
         → AreSent plan t.unit (unit_sends plan t.unit (fed ++ piece)) (with_appends es contents)
     sent_now contents sent =
-        sent_alike plan t.unit (unit_sends plan t.unit fed ++ filled after) (unit_sends plan t.unit (fed ++ piece))
-        (with_appends es contents) alike
-        (sent_all plan t.unit p.range (filled after) (unit_sends plan t.unit fed) contents (all_filled after p.short
-        p.slots)
-        (placed_of_unit plan t.unit fed p.few) sent)
+        subst (λ ds. AreSent plan t.unit ds (with_appends es contents))
+        (sent_whole plan t.unit.lo (fed ++ piece) none)
+        (piece_sent rules t m a fed piece after old new p contents sent)
 
     held : (d e : Disk) → HoldsAppends es t.staged d e → HoldsSent plan t fed d.files
         → HoldsSent plan (with_both t m a) (fed ++ piece) e.files
@@ -176,7 +215,11 @@ pub piece_done : (rules : TurnRulesValue) (t : TaskValue) (m : MachineValue) (a 
     → BytesTaken rules t (with_both t m a) fed piece r old new
 piece_done rules t m a fed piece before after old new r plan same few bytes stands empty took branches short slots
     appended
-    within judged = record { ends = ends; goes_on = goes_on rules t m a fed piece after old new r taken ends }
+    within judged = record {
+      ends = ends;
+      goes_on = goes_on rules t m a fed piece after old new r taken ends;
+      files = files_kept rules t m a fed piece after old new taken;
+    }
   where
     ends : Tells r (end_of_bytes rules.plan t.unit (fed ++ piece))
     ends = subst (λ p. Tells r (end_of_bytes p t.unit (fed ++ piece))) same

@@ -13,7 +13,7 @@ use Rattle.gob_ledger.specs.Next.{is_good}
 use Rattle.gob_plan.specs.declared.plan.Plan.{Plan}
 use Rattle.gob_plan.specs.declared.units.Unit.{Unit as WorkUnit}
 use Rattle.gob_recovery.specs.Sequence.{is_file_name}
-use Rattle.gob_pipeline.specs.Machine.{MachineValue, WasFed}
+use Rattle.gob_pipeline.specs.Machine.{MachineValue, WasFed, sent_before_stop}
 use Rattle.gob_stage.specs.Attempt.{AttemptValue, HoldsStaged, new_attempt}
 
 -- the unit and its number in the run, how many attempts at it have failed, what the machine of this attempt knows, and
@@ -84,6 +84,12 @@ pub record IsWhole (job : List ℕ) (plan : Plan) (t : TaskValue) (fed : List �
 pub record HoldsSent (plan : Plan) (t : TaskValue) (fed : List ℕ) (m : Files) : Type 0 where
   pub contents : Table (List ℕ)
   pub sent : AreSent plan t.unit (unit_sends plan t.unit fed) contents
+  pub holds : HoldsStaged t.staged contents m
+
+-- they hold exactly what these bytes have made up to the line that stops them; all, where none does
+pub record HoldsToStop (plan : Plan) (t : TaskValue) (fed : List ℕ) (m : Files) : Type 0 where
+  pub contents : Table (List ℕ)
+  pub sent : AreSent plan t.unit (sent_before_stop plan t.unit.lo fed) contents
   pub holds : HoldsStaged t.staged contents m
 
 -- an attempt with this number at a unit with that one has just begun: nothing was fed, and nothing is staged

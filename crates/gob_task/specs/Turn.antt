@@ -1,5 +1,5 @@
 -- What one turn of a task does.
-use Rattle.std.specs.Prelude.{◌≡◌, ◌⊎◌, ℕ, ◌+◌, ◌-◌, ◌≤◌, min, Bool, not, ◌||◌, nat_lt, if◌then◌else◌}
+use Rattle.std.specs.Prelude.{◌≡◌, ◌⊎◌, ℕ, ◌+◌, ◌-◌, ◌<◌, ◌≤◌, min, Bool, not, ◌||◌, nat_lt, if◌then◌else◌}
 use Rattle.std.specs.Prelude.{List, ◌++◌, length, option_map, IfSome, is_some}
 use Rattle.std.specs.declared.option.Option.{Option}
 use Rattle.std.specs.declared.result.Result.{Result}
@@ -13,10 +13,12 @@ use Rattle.gob_plan.specs.declared.plan.Plan.{Plan}
 use Rattle.gob_plan.specs.declared.units.Cause.TheVariants.{Fault, Gone}
 use Rattle.gob_plan.specs.declared.units.Counts.{Counts}
 use Rattle.gob_plan.specs.declared.units.Unit.{Unit as WorkUnit}
+use Rattle.gob_pipeline.specs.Made.{AreSlots, Buffers, filled}
 use Rattle.gob_recovery.specs.Commits.{OnlyBelow}
 use Rattle.gob_stage.specs.declared.fault.StageFault.{StageFault}
 use Rattle.gob_stage.specs.declared.fault.StageFault.TheVariants as stage_fault
-use Rattle.gob_task.specs.Task.{TaskValue, HasBegun, HoldsSent, IsWhole, StandsBehind, unit_length}
+use Rattle.gob_task.specs.Staging.{after_stagings, appends_of}
+use Rattle.gob_task.specs.Task.{TaskValue, HasBegun, HoldsSent, HoldsToStop, IsWhole, StandsBehind, unit_length}
 use Rattle.gob_task.specs.declared.fault.TurnFault.{TurnFault}
 use Rattle.gob_task.specs.declared.fault.TurnFault.TheVariants as turn_fault
 use Rattle.gob_task.specs.declared.task.Turn.{Turn}
@@ -103,13 +105,29 @@ GoesOn rules t u fed given (turn.Failed cause) old new = Unit {0}
 GoesOn rules t u fed given turn.Whole old new =
     IsWhole rules.job rules.plan u (fed ++ given) × IsFed rules t u fed given old new
 
+-- the volume was called for one append to each target that has bytes in some buffers, and for nothing else
+pub record OneAppendEach (plan : Plan) (t : TaskValue) (old new : Option Disk) : Type 0 where
+  pub buffers : Buffers
+  pub slots : AreSlots buffers
+  pub calls : new ≡ option_map (after_stagings (appends_of plan t.unit (filled buffers)) t.staged) old
+
+-- behind these bytes it was fed these too, whether or not a line stops it: where the attempt's files held what the first
+-- have made, they hold what both have made up to a stop
+pub record FilesKept (rules : TurnRulesValue) (t u : TaskValue) (fed given : List ℕ) (old new : Option Disk)
+    : Type 0 where
+  pub unit : u.unit ≡ t.unit
+  pub folder : u.staged.folder ≡ t.staged.folder
+  pub holds : Both (λ d e. HoldsSent rules.plan t fed d.files → HoldsToStop rules.plan u (fed ++ given) e.files) old new
+  pub appends : OneAppendEach rules.plan t old new
+
 -- these bytes were taken: they tell how the turn ends, and where the task stands
 pub record BytesTaken (rules : TurnRulesValue) (t u : TaskValue) (fed given : List ℕ) (r : Turn)
     (old new : Option Disk) : Type 0 where
   pub ends : Tells r (end_of_bytes rules.plan t.unit (fed ++ given))
   pub goes_on : GoesOn rules t u fed given r old new
+  pub files : FilesKept rules t u fed given old new
 
--- the pull was answered with these bytes, behind those that were fed
+-- the pull was answered with these bytes, behind those that were fed; where some are gone, none of them is fed
 pub record AnswerTaken (rules : TurnRulesValue) (t u : TaskValue) (given : List ℕ) (r : Turn) (old new : Devices)
     : Type 0 where
   pub few : length given ≤ asked_for rules.piece t
@@ -121,6 +139,9 @@ pub record AnswerTaken (rules : TurnRulesValue) (t u : TaskValue) (given : List 
       → Tells r (end_of_answer rules.plan t.unit fed (asked_for rules.piece t) given)
   pub goes_on : (fed : List ℕ) → StandsBehind rules.job rules.plan t fed
       → GoesOn rules t u fed given r old.disk new.disk
+  pub files : asked_for rules.piece t ≤ length given → (fed : List ℕ) → StandsBehind rules.job rules.plan t fed
+      → FilesKept rules t u fed given old.disk new.disk
+  pub gone : length given < asked_for rules.piece t → new.disk ≡ old.disk
 
 -- the pull failed
 pub record FailureTaken (rules : TurnRulesValue) (t u : TaskValue) (r : Turn) (old new : Devices) : Type 0 where

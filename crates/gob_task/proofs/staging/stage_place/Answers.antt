@@ -22,4 +22,5 @@ returns-clause-appended g c =
     place_appended c.args.plan.now c.args.unit.now c.args.slot c.args.place.now c.args.bytes.now c.as_str.result.now
     c.as_slice.result.now c.args.staged.now c.append.new.self _ _ some (c.as_str.ensures ∙ c.in_ok-name.ensures.name)
     c.as_slice.ensures (subst (λ n. is_file_name n ≡ true) (sym c.as_str.ensures) c.in_ok-name.ensures.spelled)
-    c.in_ok-append.ensures.begun c.in_ok-append.ensures.holds c.in_ok-append.ensures.there
+    c.in_ok-append.ensures.begun c.in_ok-append.ensures.disk c.in_ok-append.ensures.holds
+    c.in_ok-append.ensures.there
