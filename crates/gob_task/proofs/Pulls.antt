@@ -28,8 +28,8 @@ pub gone_taken : (rules : TurnRulesValue) (t u : TaskValue) (given : List ℕ) (
     → IfSome old.supply
     (λ s. given ≡ bytes_from s.held t.unit.part (t.unit.lo + t.machine.seen) (asked_for rules.piece t))
     → new.supply ≡ option_map (with_pull (pull_of rules.piece t)) old.supply → new.source_faults ≡ old.source_faults
-    → new.disk ≡ old.disk → AnswerTaken rules t u given (turn.Failed Gone) old new
-gone_taken rules t u given old new less told pulled same unchanged = record {
+    → u ≡ t → new.disk ≡ old.disk → AnswerTaken rules t u given (turn.Failed Gone) old new
+gone_taken rules t u given old new less told pulled same unfed unchanged = record {
   few = omega (arith, less);
   told = told;
   pulled = pulled;
@@ -39,7 +39,7 @@ gone_taken rules t u given old new less told pulled same unchanged = record {
       (lt-ltb (length given) (asked_for rules.piece t) less);
   goes_on = λ fed stands. tt;
   files = λ all fed stands. absurd (omega (arith, less, all));
-  gone = λ _. unchanged;
+  gone = λ _. (unfed, unchanged);
 }
 
 -- all of them came
@@ -121,7 +121,7 @@ short_turn rules t asked at n part front old new a b less unchanged same = recor
         (omega (arith, less, a.number, b.room, length-take n front))
         (told_front old.supply n asked at front part rules t a b.bytes)
         (b.pulled ∙ ap (λ p. option_map (with_pull p) old.supply) (same_pull rules t asked at part a)) b.source
-        unchanged,
+        refl unchanged,
   );
   below = subst (λ d. Along (OnlyBelow t.staged.folder) old.disk d) (sym unchanged)
       (along_nothing (OnlyBelow t.staged.folder) old.disk);

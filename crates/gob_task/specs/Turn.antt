@@ -111,8 +111,8 @@ pub record OneAppendEach (plan : Plan) (t : TaskValue) (old new : Option Disk) :
   pub slots : AreSlots buffers
   pub calls : new ≡ option_map (after_stagings (appends_of plan t.unit (filled buffers)) t.staged) old
 
--- behind these bytes it was fed these too, whether or not a line stops it: where the attempt's files held what the first
--- have made, they hold what both have made up to a stop
+-- behind these bytes it was fed these too, whether or not a line stops it: where the attempt's files held what the
+-- first have made, they hold what both have made up to a stop
 pub record FilesKept (rules : TurnRulesValue) (t u : TaskValue) (fed given : List ℕ) (old new : Option Disk)
     : Type 0 where
   pub unit : u.unit ≡ t.unit
@@ -141,7 +141,7 @@ pub record AnswerTaken (rules : TurnRulesValue) (t u : TaskValue) (given : List 
       → GoesOn rules t u fed given r old.disk new.disk
   pub files : asked_for rules.piece t ≤ length given → (fed : List ℕ) → StandsBehind rules.job rules.plan t fed
       → FilesKept rules t u fed given old.disk new.disk
-  pub gone : length given < asked_for rules.piece t → new.disk ≡ old.disk
+  pub gone : length given < asked_for rules.piece t → (u ≡ t) × (new.disk ≡ old.disk)
 
 -- the pull failed
 pub record FailureTaken (rules : TurnRulesValue) (t u : TaskValue) (r : Turn) (old new : Devices) : Type 0 where
