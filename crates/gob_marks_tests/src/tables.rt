@@ -1,6 +1,7 @@
 //! The marks of all partitions.
 
-ghost use Rattle.std.specs.Prelude.{◌<◌};
+ghost use Rattle.std.specs.Prelude.{◌≡◌, ◌<◌};
+ghost use Rattle.gob_marks.specs.Changed.{marks_in};
 
 use gob_marks::{MarkTable, Marks, Range};
 use gob_plan::{NoMemory, Text};
@@ -118,6 +119,81 @@ fn a_done_range_is_added_by_name(rt: HostRuntime) -> Result<(), Fail> {
     let mut table = MarkTable::new(rt.alloc());
     table.add_done("a", 6, 3)?;
     same_mark(&rt, &table, "a", 6);
+    Ok(())
+}
+
+/// So many ranges that a state may have.
+const MOST: u64 = 200_000;
+
+fn next_of(table: &MarkTable, part: &str) -> u64
+    ensures { result ≡ (marks_in table.now part.now).next }
+{
+    match table.get(part) {
+        Some(marks) => marks.next(),
+        None => 0,
+    }
+}
+
+/// Owes one byte more of a partition.
+fn owe_byte(table: &mut MarkTable, part: &str) -> Result<(), NoMemory> {
+    let next = next_of(table, part);
+    if next < u64::MAX {
+        table.add_open(part, next + 1)?;
+    }
+    Ok(())
+}
+
+/// Two partitions, of each of which so many bytes are owed, each as a range.
+fn byte_by_byte(alloc: Global, bytes: u64) -> Result<MarkTable, NoMemory> {
+    let mut table = MarkTable::new(alloc);
+    for _ in 0..bytes {
+        owe_byte(&mut table, "a")?;
+        owe_byte(&mut table, "b")?;
+    }
+    Ok(table)
+}
+
+/// How many of the first so many bytes of a partition were ranges that are done now.
+fn commit_bytes(table: &mut MarkTable, part: &str, bytes: u64) -> Result<u64, NoMemory> {
+    let mut done = 0u64;
+    for lo in 0..bytes {
+        if table.commit(part, Range { lo, hi: lo + 1 }, 0)? {
+            done = done.saturating_add(1);
+        }
+    }
+    Ok(done)
+}
+
+fn is_covered(table: &MarkTable, part: &str, at: u64) -> bool {
+    match table.get(part) {
+        Some(marks) => marks.covers(at),
+        None => false,
+    }
+}
+
+/// How many of the first so many bytes of a partition are covered.
+fn covered_bytes(table: &MarkTable, part: &str, bytes: u64) -> u64 {
+    let mut covered = 0u64;
+    for at in 0..bytes {
+        if is_covered(table, part, at) {
+            covered = covered.saturating_add(1);
+        }
+    }
+    covered
+}
+
+/// No call goes over all ranges, else this would take hours.
+#[test]
+fn ranges_are_found_among_many(rt: HostRuntime) -> Result<(), Fail> {
+    let mut table = byte_by_byte(rt.alloc(), MOST / 2)?;
+    same_number(&rt, table.range_count(), MOST);
+    same_number(&rt, commit_bytes(&mut table, "a", MOST)?, MOST / 2);
+    same_number(&rt, commit_bytes(&mut table, "a", MOST)?, 0);
+    same_mark(&rt, &table, "a", MOST / 2);
+    same_mark(&rt, &table, "b", 0);
+    same_number(&rt, covered_bytes(&table, "a", MOST), MOST / 2);
+    same_number(&rt, covered_bytes(&table, "b", MOST), 0);
+    same_number(&rt, table.range_count(), MOST);
     Ok(())
 }
 
