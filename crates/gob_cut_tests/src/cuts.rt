@@ -15,7 +15,7 @@ type OfTaken = (&'static [Given], &'static [Taken], &'static str);
 type OfNames = (&'static [Given], &'static str, &'static str);
 
 /// A cut ends at the last line end within the limit, else at the first one behind it.
-const LINES: [OfLines; 10] = [
+const LINES: [OfLines; 13] = [
     (&[], 100, ""),
     (&[("a", "")], 100, ""),
     (&[("a", "abc")], 100, ""),
@@ -30,6 +30,18 @@ const LINES: [OfLines; 10] = [
     (&[("a", "1234567\n8\n")], 3, "a 0-8 new;a 8-10 new;"),
     (&[("a", "\n\n")], 1, "a 0-1 new;a 1-2 new;"),
     (&[("a", "1\n2\n")], u64::MAX, "a 0-4 new;"),
+    // A half line waits, a long line is whole.
+    (&[("a.log", "x\nyy")], 100, "a.log 0-2 new;"),
+    (
+        &[("a.log", "ab\nabcdefgh\nz\n")],
+        4,
+        "a.log 0-3 new;a.log 3-12 new;a.log 12-14 new;",
+    ),
+    (
+        &[("a.log", "a\nK\nb\n")],
+        2,
+        "a.log 0-2 new;a.log 2-4 new;a.log 4-6 new;",
+    ),
 ];
 
 const THREE: &[Given] = &[("a", "1\n2\n3\n"), ("b", "1\n2\n"), ("c", "1\n")];
@@ -47,8 +59,25 @@ const ROUNDS: [(u32, &str); 6] = [
     ),
 ];
 
+const TWO: &[Given] = &[("a", "1\n2\n3\n"), ("b", "1\n2\n3\n")];
+
+/// A run takes up to three new units, and the next one goes on: what was taken before, and the units.
+const RUNS: [(&[Taken], &str); 4] = [
+    (&[], "a 0-2 new;b 0-2 new;a 2-4 new;"),
+    (
+        &[("a", 4, true), ("b", 2, true)],
+        "a 4-6 new;b 2-4 new;b 4-6 new;",
+    ),
+    // The middle unit failed. What is owed doesn't count among them.
+    (
+        &[("a", 4, true), ("b", 2, false)],
+        "b 0-2 owed;a 4-6 new;b 2-4 new;b 4-6 new;",
+    ),
+    (&[("a", 6, true), ("b", 6, true)], ""),
+];
+
 /// What is open comes first, however many new units there may be; new ones begin behind all that was taken.
-const TAKEN: [OfTaken; 6] = [
+const TAKEN: [OfTaken; 9] = [
     (&[("a", "1\n2\n3\n")], &[("a", 4, true)], "a 4-6 new;"),
     (&[("a", "1\n2\n3\n")], &[("a", 6, true)], ""),
     (&[("a", "1\n2\n3")], &[("a", 4, true)], ""),
@@ -63,10 +92,27 @@ const TAKEN: [OfTaken; 6] = [
         "a 0-3 owed, not listed;a 3-5 owed, not listed;b 0-2 owed;b 2-4 new;",
     ),
     (&[], &[("a", 4, true)], ""),
+    // The half line has become whole.
+    (
+        &[("a.log", "x\nyy\n")],
+        &[("a.log", 2, true)],
+        "a.log 2-5 new;",
+    ),
+    // The line between two others failed, and then its partition is gone.
+    (
+        &[("a.log", "a\nK\nb\n")],
+        &[("a.log", 2, true), ("a.log", 4, false), ("a.log", 6, true)],
+        "a.log 2-4 owed;",
+    ),
+    (
+        &[],
+        &[("a.log", 2, true), ("a.log", 4, false), ("a.log", 6, true)],
+        "a.log 2-4 owed, not listed;",
+    ),
 ];
 
 /// A partition that is shorter than what was taken of it is named, the first of them in byte order of names.
-const SHRUNK: [OfTaken; 2] = [
+const SHRUNK: [OfTaken; 3] = [
     (
         &[("a", "1\n"), ("b", "1\n2"), ("c", "")],
         &[
@@ -78,6 +124,11 @@ const SHRUNK: [OfTaken; 2] = [
         "b had 5 and has 3",
     ),
     (&[("a", "1\n")], &[("a", 3, false)], "a had 3 and has 2"),
+    (
+        &[("a.log", "x\n")],
+        &[("a.log", 4, true)],
+        "a.log had 4 and has 2",
+    ),
 ];
 
 /// A name's length counts as it is escaped, and up to 180 bytes are taken.
@@ -168,6 +219,19 @@ fn new_units_are_taken_in_rounds(rt: HostRuntime) -> Result<(), Fail> {
             most: *most,
         };
         check(&rt, rt.alloc(), THREE, &[], &run, wanted)?;
+    }
+    Ok(())
+}
+
+#[test]
+fn the_next_run_goes_on_in_rounds(rt: HostRuntime) -> Result<(), Fail> {
+    let run = Run {
+        prefix: "",
+        max_bytes: 2,
+        most: 3,
+    };
+    for (taken, wanted) in &RUNS {
+        check(&rt, rt.alloc(), TWO, taken, &run, wanted)?;
     }
     Ok(())
 }

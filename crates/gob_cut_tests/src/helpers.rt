@@ -66,7 +66,8 @@ fn next_of(table: &MarkTable, part: &str) -> u64
     }
 }
 
-fn take(table: &mut MarkTable, part: &str, hi: u64, done: bool) -> Result<(), NoMemory> {
+/// Takes a range from where the one before it ends.
+pub(crate) fn take(table: &mut MarkTable, part: &str, hi: u64, done: bool) -> Result<(), NoMemory> {
     if next_of(table, part) >= hi {
         return Ok(());
     }
@@ -127,7 +128,12 @@ fn push_unit(text: &mut Text, alloc: Global, unit: &Unit) -> Result<(), NoMemory
     Ok(())
 }
 
-fn push_number(text: &mut Text, alloc: Global, before: &str, number: u64) -> Result<(), NoMemory> {
+fn push_number(
+    text: &mut Text,
+    alloc: Global,
+    before: &str,
+    number: u64,
+) -> Result<(), NoMemory> {
     text.push(before)?;
     text.push(number.to_string(alloc)?.as_str())?;
     Ok(())

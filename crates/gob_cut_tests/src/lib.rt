@@ -8,4 +8,6 @@ mod failures;
 #[cfg(test)]
 mod helpers;
 #[cfg(test)]
+mod history;
+#[cfg(test)]
 mod windows;
