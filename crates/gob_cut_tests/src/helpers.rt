@@ -128,7 +128,7 @@ fn push_unit(text: &mut Text, alloc: Global, unit: &Unit) -> Result<(), NoMemory
     Ok(())
 }
 
-fn push_number(
+pub(crate) fn push_number(
     text: &mut Text,
     alloc: Global,
     before: &str,
