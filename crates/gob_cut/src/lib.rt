@@ -9,4 +9,4 @@ mod rounds;
 mod run_units;
 
 pub use fault::CutFault;
-pub use run_units::{Cut, units};
+pub use run_units::{Cut, units, units_through};

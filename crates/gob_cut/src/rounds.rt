@@ -12,9 +12,6 @@ use gob_io::Source;
 use gob_plan::{List, NoMemory, Text, Unit};
 use std::alloc::Global;
 
-/// So many bytes are looked at in one call.
-const WINDOW: usize = 65536;
-
 /// A partition, by its place in a list, that may have further cuts from an offset on.
 #[derive(Clone, Copy)]
 pub struct Cursor {
@@ -22,45 +19,8 @@ pub struct Cursor {
     pub at: u64,
 }
 
-/// Adds the first so many cuts of these partitions, in rounds.
-pub fn add_cuts<S: Source>(
-    alloc: Global,
-    source: &mut S,
-    kept: &[(Text, u64)],
-    max: u64,
-    cursors: Vec<Cursor>,
-    most: usize,
-    units: &mut List<Unit>,
-) -> Result<(), Stop>
-    requires named { All (λ e. e.0 ≢ []) kept.now }
-    requires rising { IsInByteOrder (names_of kept.now) }
-    requires cursors { All (IsCursor kept.now) cursors.items }
-    requires apart { PlacesRise 0 cursors.items }
-    ensures units { OnOk result (IfSome (S.supply source.old) (λ s. AreSized s.held kept.now
-        → units.new ≡ units.old ++ take most (all_rounds (lists_of s.held max kept.now cursors.items)))) }
-    ensures goes { OnOk result (Goes kept.now cursors.items [] units.old units.new) }
-    ensures few { OnOk result (length units.new ≤ length units.old + most) }
-    ensures supply { S.supply source.new ≡ S.supply source.old }
-    ensures cause { HasCause (S.faults source.old) (S.faults source.new) (result ≡ Err Stop.Failed) }
-    ensures planned { HasCause (S.plan_faults source.old) (S.plan_faults source.new) (result ≡ Err Stop.Failed) }
-{
-    let Ok(mut window) = vec![in alloc; 0u8; WINDOW] else {
-        return Err(Stop::Memory);
-    };
-    add_rounds(
-        alloc,
-        source,
-        kept,
-        max,
-        cursors,
-        most,
-        units,
-        window.as_mut_slice(),
-    )
-}
-
-// Adds the first so many cuts, round by round.
-fn add_rounds<S: Source>(
+/// Adds the first so many cuts of these partitions, round by round.
+pub fn add_rounds<S: Source>(
     alloc: Global,
     source: &mut S,
     kept: &[(Text, u64)],

@@ -1,5 +1,6 @@
 //! The units of a run.
-ghost use Rattle.std.specs.Prelude.{◌≡◌, ◌≢◌, ◌++◌, ℕ, [], All, take, IfErr, IfOk, IfSome, OnOk, Some, None};
+ghost use Rattle.std.specs.Prelude.{◌≡◌, ◌≢◌, ◌<◌, ◌++◌, ℕ, [], All, length, take, IfErr, IfOk, IfSome, OnOk};
+ghost use Rattle.std.specs.Prelude.{Some, None};
 ghost use Rattle.std.specs.List.{AllByRecursion};
 ghost use Rattle.gob_bytes.specs.Tables.{IsInByteOrder, names_of};
 ghost use Rattle.gob_device.specs.Causes.{HasCause};
@@ -15,11 +16,14 @@ ghost use Rattle.gob_cut.specs.Units.{AreCut, UnitsAre};
 use crate::fault::{CutFault, Stop};
 use crate::listing::{kept_parts, next_of, refuse_shrunk, too_long};
 use crate::owed::add_owed;
-use crate::rounds::{Cursor, add_cuts};
+use crate::rounds::{Cursor, add_rounds};
 use gob_io::{ListFault, Source};
 use gob_marks::MarkTable;
 use gob_plan::{Limits, List, NoMemory, Text, Unit};
 use std::alloc::Global;
+
+/// So many bytes are looked at in one call.
+const WINDOW: usize = 65536;
 
 /// The units of a run, and the partitions that are left alone since their names are too long.
 #[derive(Drop)]
@@ -52,6 +56,36 @@ pub fn units<S: Source>(
     ensures cause { HasCause (S.faults source.old) (S.faults source.new) (result ≡ Err CutFault.Failed) }
     ensures planned { HasCause (S.plan_faults source.old) (S.plan_faults source.new) (result ≡ Err CutFault.Failed) }
 {
+    let Ok(mut window) = vec![in alloc; 0u8; WINDOW] else {
+        return Err(CutFault::Memory);
+    };
+    let cut = units_through(alloc, source, marks, limits, window.as_mut_slice())?;
+    Ok(cut)
+}
+
+/// The same, where a look sees as much as this window holds.
+pub fn units_through<S: Source>(
+    alloc: Global,
+    source: &mut S,
+    marks: &MarkTable,
+    limits: &Limits,
+    window: &mut [u8],
+) -> Result<Cut, CutFault>
+    requires room { 0 < length window.old }
+    ensures units { IfOk result (λ cut. IfSome (S.supply source.old) (λ s.
+        cut.units ≡ ledger.units_of_parts marks.now s.held limits.now)) }
+    ensures too_long { IfOk result (λ cut. IfSome (S.supply source.old) (λ s.
+        cut.too_long ≡ ledger.too_long limits.now (names_of s.held))) }
+    ensures cut { IfOk result (UnitsAre marks.now limits.now) }
+    ensures rising { OnOk result (IfSome (S.supply source.old) (λ s. IsInByteOrder (names_of s.held))) }
+    ensures unshrunk { OnOk result (IfSome (S.supply source.old) (λ s.
+        ledger.first_shrunk marks.now (listing_of s.held) ≡ None)) }
+    ensures shrunk { IfErr result (λ f. IfSome (S.supply source.old) (λ s.
+        ShrunkIsTold marks.now (listing_of s.held) f)) }
+    ensures supply { S.supply source.new ≡ S.supply source.old }
+    ensures cause { HasCause (S.faults source.old) (S.faults source.new) (result ≡ Err CutFault.Failed) }
+    ensures planned { HasCause (S.plan_faults source.old) (S.plan_faults source.new) (result ≡ Err CutFault.Failed) }
+{
     let parts = match source.list(alloc) {
         Ok(parts) => parts,
         Err(ListFault::Failed) => return Err(CutFault::Failed),
@@ -60,7 +94,7 @@ pub fn units<S: Source>(
     refuse_shrunk(parts.as_slice(), marks)?;
     let long = too_long(alloc, parts.as_slice(), limits)?;
     let kept = kept_parts(alloc, parts.as_slice(), limits)?;
-    let units = units_of(alloc, source, kept.as_slice(), marks, limits)?;
+    let units = units_of(alloc, source, kept.as_slice(), marks, limits, window)?;
     Ok(Cut {
         units,
         too_long: long,
@@ -74,7 +108,9 @@ fn units_of<S: Source>(
     kept: &[(Text, u64)],
     marks: &MarkTable,
     limits: &Limits,
+    window: &mut [u8],
 ) -> Result<List<Unit>, Stop>
+    requires room { 0 < length window.old }
     requires named { All (λ e. e.0 ≢ []) kept.now }
     requires rising { IsInByteOrder (names_of kept.now) }
     ensures units { IfOk result (λ units. IfSome (S.supply source.old) (λ s. AreSized s.held kept.now → units
@@ -90,7 +126,7 @@ fn units_of<S: Source>(
     add_owed(alloc, kept, marks, &mut units)?;
     let cursors = first_cursors(alloc, kept, marks)?;
     let most = limits.max_new_units as usize;
-    add_cuts(
+    add_rounds(
         alloc,
         source,
         kept,
@@ -98,6 +134,7 @@ fn units_of<S: Source>(
         cursors,
         most,
         &mut units,
+        window,
     )?;
     Ok(units)
 }

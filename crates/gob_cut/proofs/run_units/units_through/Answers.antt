@@ -7,7 +7,7 @@ use Rattle.gob_ledger.specs.Units.{first_shrunk, too_long}
 use Rattle.gob_cut.specs.Units.{kept_of}
 use Rattle.gob_cut.proofs.Told.{kept_named, kept_rising, told_names, told_rising, told_units}
 use Rattle.gob_cut.proofs.Whole.{units_are}
-use Rattle.gob_cut.proofs.run_units.units.Goals as goal
+use Rattle.gob_cut.proofs.run_units.units_through.Goals as goal
 
 pub units_of-requires-clause-named : goal.units_of-requires-clause-named
 units_of-requires-clause-named g c =
