@@ -1,6 +1,6 @@
 //! Which pulls a run makes, and which units it gives up.
 
-ghost use Rattle.std.specs.Prelude.{◌≡◌, IfOk};
+ghost use Rattle.std.specs.Prelude.{◌≡◌, true, IfOk};
 ghost use Rattle.gob_meaning.specs.Plans.{is_fitting};
 ghost use Rattle.gob_turns.specs.Asked.{MayHaveTurns};
 ghost use Rattle.gob_turns_tests.specs.Given.{rules_with, turns_given, two_units};
