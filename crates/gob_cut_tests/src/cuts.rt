@@ -1,6 +1,6 @@
 //! What is cut from a source, by what was taken and by the limits.
 
-use crate::helpers::{Given, Taken, answer, limits, marks, same_text, source};
+use crate::helpers::{Given, Taken, answer_through, limits, marks, same_text, source};
 use std::alloc::Global;
 use std::process::Abort;
 use std::test::Fail;
@@ -181,6 +181,9 @@ const WIDE: Run = Run {
     most: 100,
 };
 
+/// So many bytes are looked at in one call: whatever they are, the units are the same.
+const WINDOWS: [usize; 4] = [1, 2, 3, 65536];
+
 fn check(
     rt: &impl Abort,
     alloc: Global,
@@ -192,8 +195,10 @@ fn check(
     let mut source = source(alloc, parts, &[], &[])?;
     let marks = marks(alloc, taken)?;
     let limits = limits(alloc, run.prefix, run.max_bytes, run.most)?;
-    let found = answer(alloc, &mut source, &marks, &limits)?;
-    same_text(rt, found.as_str(), wanted);
+    for window in WINDOWS {
+        let found = answer_through(alloc, &mut source, &marks, &limits, window)?;
+        same_text(rt, found.as_str(), wanted);
+    }
     Ok(())
 }
 

@@ -3,7 +3,7 @@
 ghost use Rattle.std.specs.Prelude.{◌≡◌};
 ghost use Rattle.gob_marks.specs.Changed.{marks_in};
 
-use gob_cut::{Cut, CutFault, units};
+use gob_cut::{Cut, CutFault, units, units_through};
 use gob_io::MemSource;
 use gob_marks::MarkTable;
 use gob_plan::{Limits, NoMemory, Text, Unit};
@@ -100,9 +100,26 @@ pub(crate) fn answer(
     marks: &MarkTable,
     limits: &Limits,
 ) -> Result<Text, NoMemory> {
-    match units(alloc, source, marks, limits) {
-        Ok(cut) => told_cut(alloc, &cut),
-        Err(fault) => told_fault(alloc, &fault),
+    told(alloc, &units(alloc, source, marks, limits))
+}
+
+/// The same, where a look sees so many bytes, one at least.
+pub(crate) fn answer_through(
+    alloc: Global,
+    source: &mut MemSource,
+    marks: &MarkTable,
+    limits: &Limits,
+    window: usize,
+) -> Result<Text, NoMemory> {
+    let mut window = vec![in alloc; 0u8; window.max(1)]?;
+    let found = units_through(alloc, source, marks, limits, window.as_mut_slice());
+    told(alloc, &found)
+}
+
+fn told(alloc: Global, found: &Result<Cut, CutFault>) -> Result<Text, NoMemory> {
+    match found {
+        Ok(cut) => told_cut(alloc, cut),
+        Err(fault) => told_fault(alloc, fault),
     }
 }
 
