@@ -8,15 +8,17 @@ use std::alloc::Global;
 use std::process::Abort;
 use std::test::Fail;
 
-const LINES: [(&str, &str); 4] = [
+const LINES: [(&str, &str); 6] = [
     ("x", "'x',;"),
     ("", "'',;"),
     ("a\rb\r", "'a\rb\r',;"),
     ("\u{feff}\0", "'\u{feff}\0',;"),
+    ("\r", "'\r',;"),
+    ("\0\0,\"", "'\0\0,\"',;"),
 ];
 
 /// Of an int and a text.
-const CSV: [(&str, &str); 39] = [
+const CSV: [(&str, &str); 62] = [
     ("1,a", "1,'a',;"),
     (",", "null,'',;"),
     ("", ""),
@@ -56,10 +58,33 @@ const CSV: [(&str, &str); 39] = [
     ("\u{feff}\u{feff}1,a", "bad"),
     ("1,\u{feff}", "1,'\u{feff}',;"),
     ("1,a\0b", "1,'a\0b',;"),
+    ("1,\"\"\"", "1,'\"',;"),
+    ("1,\"\"\"\"\"", "1,'\"\"',;"),
+    ("1,\"\"\"\"\"\"", "1,'\"\"',;"),
+    ("1,\"a\"\"", "1,'a\"',;"),
+    ("1,\"a\" \"b\"", "1,'a \"b\"',;"),
+    ("1,a\"\"b\"", "1,'a\"\"b\"',;"),
+    ("1, \"a,b\"", "bad"),
+    ("1,\"a\rb,c\"\r2,d", "1,'a\rb,c',;2,'d',;"),
+    ("1,\"\r\"", "1,'\r',;"),
+    ("\"1\r\",a", "bad"),
+    ("1,a\r\"2", "bad"),
+    ("\0,a", "bad"),
+    ("1\0,a", "bad"),
+    ("1,\0\r2,\0\0", "1,'\0',;2,'\0\0',;"),
+    ("1,a\r\u{feff}2,b", "bad"),
+    ("\"\u{feff}1\",a", "bad"),
+    ("\u{feff}\"1\",a", "1,'a',;"),
+    ("\u{feff}\r1,a", "1,'a',;"),
+    ("-,a", "bad"),
+    ("--1,a", "bad"),
+    ("-00000000000000000000001,a", "-1,'a',;"),
+    ("99999999999999999999999,a", "bad"),
+    ("NaN,a", "bad"),
 ];
 
 /// Of a bool, an int and a text.
-const JSON: [(&str, &str); 44] = [
+const JSON: [(&str, &str); 91] = [
     ("", ""),
     (" ", "bad"),
     ("{}", "null,null,null,;"),
@@ -116,10 +141,60 @@ const JSON: [(&str, &str); 44] = [
         "{\"t\":\"\u{e9}\u{1f600}\"}",
         "null,null,'\u{e9}\u{1f600}',;",
     ),
+    ("{\"n\":-1}", "null,-1,null,;"),
+    ("{\"n\":1E2}", "bad"),
+    ("{\"n\":0e0}", "bad"),
+    ("{\"n\":-0.0}", "bad"),
+    ("{\"n\":18446744073709551615}", "bad"),
+    ("{\"n\":18446744073709551616}", "bad"),
+    ("{\"n\":+1}", "bad"),
+    ("{\"n\":-}", "bad"),
+    ("{\"n\":1.}", "bad"),
+    ("{\"n\":.5}", "bad"),
+    ("{\"n\":NaN}", "bad"),
+    ("{\"n\":1e400,\"n\":1}", "bad"),
+    ("{\"n\":1,\"\\u006e\":2}", "null,2,null,;"),
+    ("{\"t\":1,\"t\":[],\"t\":\"a\"}", "null,null,'a',;"),
+    ("{\"o\":{\"n\":1,\"n\":2},\"o\":3}", "null,null,null,;"),
+    (
+        "{\"t\":\"\\u0022\\u005C\\u002f\\u00E9\\uD83D\\uDE00\\u007F\\ud7ff\\uE000\"}",
+        "null,null,'\"\\/\u{e9}\u{1f600}\u{7f}\u{d7ff}\u{e000}',;",
+    ),
+    ("{\"t\":\"\\ude00\"}", "bad"),
+    ("{\"t\":\"\\ud83dx\"}", "bad"),
+    ("{\"t\":\"\\ud83d\\n\"}", "bad"),
+    ("{\"t\":\"\\ud83d\\u0041\"}", "bad"),
+    ("{\"t\":\"\\ud83d\\ud83d\\ude00\"}", "bad"),
+    ("{\"t\":\"\\ude00\\ud83d\"}", "bad"),
+    ("{\"o\":\"\\ud800\"}", "bad"),
+    ("{\"\\udc00\":1}", "bad"),
+    ("{\"t\":\"\\x41\"}", "bad"),
+    ("{\"t\":\"\\'\"}", "bad"),
+    ("{\"t\":\"\\u12\"}", "bad"),
+    ("{\"t\":\"\\u00g0\"}", "bad"),
+    ("{\"t\":\"\\\"}", "bad"),
+    ("{\"t\":\"\\", "bad"),
+    ("{\"t\":\"\u{1f}\"}", "bad"),
+    ("{\"t\":\"\t\"}", "bad"),
+    ("{\"t\":\"\u{7f}\"}", "null,null,'\u{7f}',;"),
+    ("{\"n\":1\0}", "bad"),
+    ("{}\0", "bad"),
+    ("{\"n\0\":1}", "bad"),
+    ("{\"n\\u0000\":1}", "null,null,null,;"),
+    ("{\u{feff}}", "bad"),
+    ("{\"t\":\"\u{feff}\"}", "null,null,'\u{feff}',;"),
+    ("\r", "bad"),
+    ("\r{\r\"n\"\r:\r1\r}\r", "null,1,null,;"),
+    ("{\"n\":1\u{c}}", "bad"),
+    ("{'n':1}", "bad"),
+    ("{n:1}", "bad"),
+    ("{\"n\" 1}", "bad"),
+    ("{\"n\":1 \"t\":\"a\"}", "bad"),
+    ("{\"n\":[1,]}", "bad"),
 ];
 
 // Columns that whole lines are written of are also read as whole lines.
-fn lines_decoder(alloc: Global) -> Result<LineDecoder, Fail> {
+pub(crate) fn lines_decoder(alloc: Global) -> Result<LineDecoder, Fail> {
     let list = columns(alloc, &[("line", Kind::Text)])?;
     match RowEncoder::new(alloc, Format::Lines, &list) {
         Ok(_) => Ok(LineDecoder::new(Format::Lines, &list)?),
@@ -171,7 +246,7 @@ fn json_is_read_as_serde_json_reads_it(rt: HostRuntime) -> Result<(), Fail> {
     each_decodes(&rt, rt.alloc(), &decoder, &JSON)
 }
 
-fn is_bad(rt: &impl Abort, alloc: Global, decoder: &LineDecoder, line: &[u8]) -> Result<(), Fail> {
+pub(crate) fn is_bad(rt: &impl Abort, alloc: Global, decoder: &LineDecoder, line: &[u8]) -> Result<(), Fail> {
     let found = decoded(alloc, decoder, line)?;
     same_text(rt, found.as_str(), "bad");
     Ok(())

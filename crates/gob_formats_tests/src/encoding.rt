@@ -8,7 +8,7 @@ use std::process::Abort;
 use std::test::Fail;
 
 /// A text as a field of csv, alone in its record.
-const FIELDS: [(&str, &str); 9] = [
+const FIELDS: [(&str, &str); 15] = [
     ("a", "a\n"),
     ("", "\"\"\n"),
     ("a,b", "\"a,b\"\n"),
@@ -18,20 +18,41 @@ const FIELDS: [(&str, &str); 9] = [
     ("a\nb", "\"a\nb\"\n"),
     ("a b\\'\t", "a b\\'\t\n"),
     ("\u{e9}\0", "\u{e9}\0\n"),
+    (",", "\",\"\n"),
+    ("\r", "\"\r\"\n"),
+    ("\r\n", "\"\r\n\"\n"),
+    ("\"\"", "\"\"\"\"\"\"\n"),
+    (" ", " \n"),
+    ("\u{feff}", "\u{feff}\n"),
 ];
 
 /// A text as a member of json.
-const MEMBERS: [(&str, &str); 6] = [
+const MEMBERS: [(&str, &str); 8] = [
     ("a", "{\"c\":\"a\"}\n"),
     ("", "{\"c\":\"\"}\n"),
     ("\"\\/", "{\"c\":\"\\\"\\\\/\"}\n"),
     ("\u{8}\u{c}\n\r\t", "{\"c\":\"\\b\\f\\n\\r\\t\"}\n"),
     ("\0\u{1f}\u{7f}", "{\"c\":\"\\u0000\\u001f\u{7f}\"}\n"),
     ("\u{e9}\u{1f600}", "{\"c\":\"\u{e9}\u{1f600}\"}\n"),
+    (
+        "\u{1}\u{7}\u{b}\u{e}\u{19}\u{1a}",
+        "{\"c\":\"\\u0001\\u0007\\u000b\\u000e\\u0019\\u001a\"}\n",
+    ),
+    (
+        "\u{feff}\u{2028}\u{10ffff}'",
+        "{\"c\":\"\u{feff}\u{2028}\u{10ffff}'\"}\n",
+    ),
 ];
 
 /// A text as a line.
-const TEXTS: [(&str, &str); 4] = [("a", "a\n"), ("", "\n"), ("a\r", "a\r\n"), ("a\nb", "bad")];
+const TEXTS: [(&str, &str); 6] = [
+    ("a", "a\n"),
+    ("", "\n"),
+    ("a\r", "a\r\n"),
+    ("\0\u{feff}\"", "\0\u{feff}\"\n"),
+    ("a\nb", "bad"),
+    ("\n", "bad"),
+];
 
 fn text(alloc: Global, text: &str) -> Result<Value, Fail> {
     Ok(Value::Text(Text::from_str(alloc, text)?))
