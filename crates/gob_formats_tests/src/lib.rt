@@ -1,5 +1,5 @@
-//! The tests of the formats, over their public items: lines and rows worked out by hand, and that each call which may
-//! want memory answers where there is some.
+//! The tests of formats, steps and folders, over their public items: lines, rows, columns and days worked out by hand,
+//! and that each call which may want memory answers where there is some.
 #![tactic(auto)]
 
 #[cfg(test)]
@@ -10,3 +10,7 @@ mod encoding;
 mod helpers;
 #[cfg(test)]
 mod long;
+#[cfg(test)]
+mod places;
+#[cfg(test)]
+mod steps;
