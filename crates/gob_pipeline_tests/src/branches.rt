@@ -6,7 +6,7 @@ use std::process::Abort;
 use std::test::Fail;
 
 /// A job, and what a case says of a unit.
-type Job = (&'static str, &'static str, &'static str, &'static str);
+pub(crate) type Job = (&'static str, &'static str, &'static str, &'static str);
 
 const ROWS: [Job; 7] = [
     // Each branch begins with the row that came to the fork.
@@ -92,7 +92,7 @@ const STOPS: [Job; 3] = [
     ),
 ];
 
-fn each_job_is_so(rt: &impl Abort, alloc: Global, jobs: &[Job]) -> Result<(), Fail> {
+pub(crate) fn each_job_is_so(rt: &impl Abort, alloc: Global, jobs: &[Job]) -> Result<(), Fail> {
     for (job, bytes, sent, end) in jobs {
         each_is_so(rt, alloc, job, 0, &[(*bytes, *sent, *end)])?;
     }

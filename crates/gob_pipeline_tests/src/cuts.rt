@@ -60,6 +60,15 @@ fn feed_cut(rt: &impl Abort, bench: &mut Bench, bytes: &[u8], cut: Cut) -> Resul
     bench.feed(rt, piece.as_slice())
 }
 
+/// A unit: where it begins, its bytes, what they send, and what they count or why they stop.
+#[derive(Drop)]
+pub(crate) struct Unit {
+    pub(crate) lo: u64,
+    pub(crate) bytes: Vec<u8>,
+    pub(crate) sent: Vec<u8>,
+    pub(crate) end: &'static str,
+}
+
 fn bytes_of(alloc: Global, text: &str) -> Result<Vec<u8>, AllocError> {
     let mut bytes = Vec::new(alloc);
     for byte in text.as_bytes() {
@@ -68,30 +77,51 @@ fn bytes_of(alloc: Global, text: &str) -> Result<Vec<u8>, AllocError> {
     Ok(bytes)
 }
 
-fn is_so(rt: &impl Abort, bench: &mut Bench, lo: u64, case: &Case, cut: Cut) -> Result<(), Fail> {
-    let bytes = bytes_of(bench.alloc(), case.0)?;
-    let sent = bytes_of(bench.alloc(), case.1)?;
-    bench.start(lo)?;
-    feed_cut(rt, bench, bytes.as_slice(), cut)?;
-    same_bytes(rt, bench.sent()?.as_slice(), sent.as_slice());
-    same_bytes(rt, bench.end()?.as_slice(), case.2.as_bytes());
-    assert!(rt; bench.seen() == bytes.len() as u64);
+fn unit_of(alloc: Global, lo: u64, case: &Case) -> Result<Unit, AllocError> {
+    let bytes = bytes_of(alloc, case.0)?;
+    let sent = bytes_of(alloc, case.1)?;
+    Ok(Unit {
+        lo,
+        bytes,
+        sent,
+        end: case.2,
+    })
+}
+
+fn is_so(rt: &impl Abort, bench: &mut Bench, unit: &Unit, cut: Cut) -> Result<(), Fail> {
+    bench.start(unit.lo)?;
+    feed_cut(rt, bench, unit.bytes.as_slice(), cut)?;
+    same_bytes(rt, bench.sent()?.as_slice(), unit.sent.as_slice());
+    same_bytes(rt, bench.end()?.as_slice(), unit.end.as_bytes());
+    assert!(rt; bench.seen() == unit.bytes.len() as u64);
     Ok(())
 }
 
-fn is_always_so(rt: &impl Abort, bench: &mut Bench, lo: u64, case: &Case) -> Result<(), Fail> {
+/// The unit comes to what it says, whole and in pieces of each kind.
+pub(crate) fn is_so_in_each_cut(
+    rt: &impl Abort,
+    bench: &mut Bench,
+    unit: &Unit,
+) -> Result<(), Fail> {
     for cut in CUTS {
-        is_so(rt, bench, lo, case, cut)?;
+        is_so(rt, bench, unit, cut)?;
     }
-    for at in 0..case.0.len() {
-        is_so(rt, bench, lo, case, Cut::Behind(at))?;
+    Ok(())
+}
+
+// Also in two pieces that are parted behind any byte.
+fn is_always_so(rt: &impl Abort, bench: &mut Bench, unit: &Unit) -> Result<(), Fail> {
+    is_so_in_each_cut(rt, bench, unit)?;
+    for at in 0..unit.bytes.len() {
+        is_so(rt, bench, unit, Cut::Behind(at))?;
     }
     Ok(())
 }
 
 fn each_on(rt: &impl Abort, bench: &mut Bench, lo: u64, cases: &[Case]) -> Result<(), Fail> {
     for case in cases {
-        is_always_so(rt, bench, lo, case)?;
+        let unit = unit_of(bench.alloc(), lo, case)?;
+        is_always_so(rt, bench, &unit)?;
     }
     Ok(())
 }

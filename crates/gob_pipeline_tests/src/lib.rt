@@ -7,6 +7,8 @@ mod bench;
 #[cfg(test)]
 mod branches;
 #[cfg(test)]
+mod clicks;
+#[cfg(test)]
 mod cuts;
 #[cfg(test)]
 mod files;
@@ -16,3 +18,5 @@ mod lines;
 mod long;
 #[cfg(test)]
 mod records;
+#[cfg(test)]
+mod worked;

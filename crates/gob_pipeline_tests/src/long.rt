@@ -9,7 +9,7 @@ use std::test::Fail;
 /// A long line behind this front, and behind that this back.
 fn around_a_line(alloc: Global, front: &str, back: &str) -> Result<Vec<u8>, AllocError> {
     let mut bytes = Vec::from_slice(alloc, front.as_bytes())?;
-    for _ in 0..300_000 {
+    for _ in 0..1_048_576 {
         bytes.push(b'x')?;
     }
     bytes.extend_from_slice(back.as_bytes())?;
