@@ -246,7 +246,12 @@ fn json_is_read_as_serde_json_reads_it(rt: HostRuntime) -> Result<(), Fail> {
     each_decodes(&rt, rt.alloc(), &decoder, &JSON)
 }
 
-pub(crate) fn is_bad(rt: &impl Abort, alloc: Global, decoder: &LineDecoder, line: &[u8]) -> Result<(), Fail> {
+pub(crate) fn is_bad(
+    rt: &impl Abort,
+    alloc: Global,
+    decoder: &LineDecoder,
+    line: &[u8],
+) -> Result<(), Fail> {
     let found = decoded(alloc, decoder, line)?;
     same_text(rt, found.as_str(), "bad");
     Ok(())

@@ -1,5 +1,5 @@
-//! The tests of formats, steps and folders, over their public items: lines, rows, columns and days worked out by hand,
-//! and that each call which may want memory answers where there is some.
+//! The tests of formats and of folders, over their public items: lines, rows and days worked out by hand, and that each
+//! call which may want memory answers where there is some.
 #![tactic(auto)]
 
 #[cfg(test)]
@@ -12,5 +12,3 @@ mod helpers;
 mod long;
 #[cfg(test)]
 mod places;
-#[cfg(test)]
-mod steps;

@@ -50,60 +50,93 @@ fn is_one_text(
     Ok(())
 }
 
+fn each_is_one_text(
+    rt: &impl Abort,
+    alloc: Global,
+    decoder: &LineDecoder,
+    around: &[(&str, &str)],
+) -> Result<(), Fail> {
+    for (front, back) in around {
+        is_one_text(rt, alloc, decoder, front, back)?;
+    }
+    Ok(())
+}
+
 #[test]
 fn a_line_of_a_mebibyte_is_one_text(rt: HostRuntime) -> Result<(), Fail> {
-    let alloc = rt.alloc();
-    is_one_text(&rt, alloc, &lines_decoder(alloc)?, "", "")?;
-    let csv = csv_decoder(alloc)?;
-    is_one_text(&rt, alloc, &csv, "1,", "")?;
-    is_one_text(&rt, alloc, &csv, "\r1,", "\r")?;
-    is_one_text(&rt, alloc, &csv, "1,\"", "")?;
-    is_one_text(&rt, alloc, &json_decoder(alloc)?, "{\"t\":\"", "\"}")
+    let decoder = lines_decoder(rt.alloc())?;
+    each_is_one_text(&rt, rt.alloc(), &decoder, &[("", "")])
+}
+
+#[test]
+fn a_field_of_a_mebibyte_is_one_text(rt: HostRuntime) -> Result<(), Fail> {
+    let decoder = csv_decoder(rt.alloc())?;
+    let around = [("1,", ""), ("\r1,", "\r"), ("1,\"", "")];
+    each_is_one_text(&rt, rt.alloc(), &decoder, &around)
+}
+
+#[test]
+fn a_member_of_a_mebibyte_is_one_text(rt: HostRuntime) -> Result<(), Fail> {
+    let decoder = json_decoder(rt.alloc())?;
+    each_is_one_text(&rt, rt.alloc(), &decoder, &[("{\"t\":\"", "\"}")])
+}
+
+fn each_is_bad(
+    rt: &impl Abort,
+    alloc: Global,
+    decoder: &LineDecoder,
+    fronts: &[&str],
+) -> Result<(), Fail> {
+    for front in fronts {
+        let line = around_a_mebibyte(alloc, front, "")?;
+        is_bad(rt, alloc, decoder, &line)?;
+    }
+    Ok(())
 }
 
 #[test]
 fn a_mebibyte_without_a_quote_is_no_object(rt: HostRuntime) -> Result<(), Fail> {
-    let alloc = rt.alloc();
-    let decoder = json_decoder(alloc)?;
-    is_bad(&rt, alloc, &decoder, &around_a_mebibyte(alloc, "", "")?)?;
-    is_bad(
-        &rt,
-        alloc,
-        &decoder,
-        &around_a_mebibyte(alloc, "{\"t\":\"", "")?,
-    )
+    let decoder = json_decoder(rt.alloc())?;
+    each_is_bad(&rt, rt.alloc(), &decoder, &["", "{\"t\":\""])
 }
 
-/// So many of these in one another, with a zero in the midst.
-fn nested(alloc: Global, open: &str, close: &str, times: usize) -> Result<Vec<u8>, AllocError> {
-    let mut line = Vec::new(alloc);
-    add_times(&mut line, open, times)?;
+/// What stands in front, what opens so many times, what closes them, and what stands behind.
+type Nest = ([&'static str; 4], usize, &'static str);
+
+const NESTS: [Nest; 4] = [
+    (["{\"o\":", "[", "]", "}"], 126, "null,null,null,;"),
+    (["{\"o\":", "[", "]", "}"], 127, "bad"),
+    (["", "{\"o\":", "}", ""], 127, "null,null,null,;"),
+    (["", "{\"o\":", "}", ""], 128, "bad"),
+];
+
+// With a zero in the midst.
+fn nested(alloc: Global, parts: [&str; 4], times: usize) -> Result<Vec<u8>, AllocError> {
+    let mut line = Vec::from_slice(alloc, parts[0].as_bytes())?;
+    add_times(&mut line, parts[1], times)?;
     line.push(b'0')?;
-    add_times(&mut line, close, times)?;
+    add_times(&mut line, parts[2], times)?;
+    line.extend_from_slice(parts[3].as_bytes())?;
     Ok(line)
 }
 
-/// A member that no column names, with so many lists in one another.
-fn of_lists(alloc: Global, times: usize) -> Result<Vec<u8>, AllocError> {
-    let mut line = Vec::from_slice(alloc, b"{\"o\":")?;
-    line.extend_from_slice(&nested(alloc, "[", "]", times)?)?;
-    line.push(b'}')?;
-    Ok(line)
-}
-
-/// Objects alone.
-fn of_objects(alloc: Global, times: usize) -> Result<Vec<u8>, AllocError> {
-    nested(alloc, "{\"o\":", "}", times)
+fn is_read_so(
+    rt: &impl Abort,
+    alloc: Global,
+    decoder: &LineDecoder,
+    nest: &Nest,
+) -> Result<(), Fail> {
+    let line = nested(alloc, nest.0, nest.1)?;
+    let found = decoded(alloc, decoder, &line)?;
+    same_text(rt, found.as_str(), nest.2);
+    Ok(())
 }
 
 #[test]
 fn json_nests_127_deep_and_no_deeper(rt: HostRuntime) -> Result<(), Fail> {
-    let alloc = rt.alloc();
-    let decoder = json_decoder(alloc)?;
-    let found = decoded(alloc, &decoder, &of_lists(alloc, 126)?)?;
-    same_text(&rt, found.as_str(), "null,null,null,;");
-    let found = decoded(alloc, &decoder, &of_objects(alloc, 127)?)?;
-    same_text(&rt, found.as_str(), "null,null,null,;");
-    is_bad(&rt, alloc, &decoder, &of_lists(alloc, 127)?)?;
-    is_bad(&rt, alloc, &decoder, &of_objects(alloc, 128)?)
+    let decoder = json_decoder(rt.alloc())?;
+    for nest in &NESTS {
+        is_read_so(&rt, rt.alloc(), &decoder, nest)?;
+    }
+    Ok(())
 }

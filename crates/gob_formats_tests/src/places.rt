@@ -6,6 +6,7 @@ use gob_fork::Plain;
 use gob_plan::{List, Row, Text, Value};
 use gob_timeplace::Day;
 use std::alloc::Global;
+use std::process::Abort;
 use std::test::Fail;
 
 /// Seconds since 1970, and the folder of their day.
@@ -42,11 +43,22 @@ fn folder_of<P: Placer<Rec = Row>>(
     Ok(String::from_utf8(folder)?)
 }
 
+fn is_in<P: Placer<Rec = Row>>(
+    rt: &impl Abort,
+    alloc: Global,
+    placer: &P,
+    value: Value,
+    wanted: &str,
+) -> Result<(), Fail> {
+    let found = folder_of(alloc, placer, value)?;
+    same_text(rt, found.as_str(), wanted);
+    Ok(())
+}
+
 #[test]
 fn days_have_folders(rt: HostRuntime) -> Result<(), Fail> {
     for (second, wanted) in &DAYS {
-        let found = folder_of(rt.alloc(), &Day::new(0), Value::Int(*second))?;
-        same_text(&rt, found.as_str(), wanted);
+        is_in(&rt, rt.alloc(), &Day::new(0), Value::Int(*second), wanted)?;
     }
     Ok(())
 }
@@ -54,14 +66,9 @@ fn days_have_folders(rt: HostRuntime) -> Result<(), Fail> {
 #[test]
 fn what_has_no_day_has_a_folder_too(rt: HostRuntime) -> Result<(), Fail> {
     let alloc = rt.alloc();
-    let found = folder_of(alloc, &Day::new(0), Value::Null)?;
-    same_text(&rt, found.as_str(), "out/none/");
     let text = Text::from_str(alloc, "0")?;
-    let found = folder_of(alloc, &Day::new(0), Value::Text(text))?;
-    same_text(&rt, found.as_str(), "out/none/");
-    let found = folder_of(alloc, &Day::new(1), Value::Int(0))?;
-    same_text(&rt, found.as_str(), "out/none/");
-    let found = folder_of(alloc, &Plain, Value::Int(0))?;
-    same_text(&rt, found.as_str(), "out/");
-    Ok(())
+    is_in(&rt, alloc, &Day::new(0), Value::Text(text), "out/none/")?;
+    is_in(&rt, alloc, &Day::new(0), Value::Null, "out/none/")?;
+    is_in(&rt, alloc, &Day::new(1), Value::Int(0), "out/none/")?;
+    is_in(&rt, alloc, &Plain, Value::Int(0), "out/")
 }
