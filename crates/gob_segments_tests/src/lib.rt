@@ -1,5 +1,7 @@
-//! The tests of what is loaded of a job, over public items: states and changes on a volume in memory.
+//! The tests of what is kept of a job, over public items: changes, and states with changes on a volume in memory.
 #![tactic(auto)]
 
+#[cfg(test)]
+mod changes;
 #[cfg(test)]
 mod loads;

@@ -7,44 +7,53 @@ use std::alloc::Global;
 use std::process::Abort;
 use std::test::Fail;
 
-const STATE: &str = "j1/state";
+pub(crate) const STATE: &str = "j1/state";
 
-const SECOND: &str = "j1/delta/00000000000000000002";
+pub(crate) const SECOND: &str = "j1/delta/00000000000000000002";
 
 const THIRD: &str = "j1/delta/00000000000000000003";
 
 const FOURTH: &str = "j1/delta/00000000000000000004";
 
-const BASE: &[u8] =
+pub(crate) const BASE: &[u8] =
     b"gobblin-state 2\nrun 1\npipelines 1\npipeline 1\nwriter.format.0=json\ntotals 1 0 1 0\nbranch 0 1 0 0\npartition a 6\ndone 0 2 0\nopen 2 4\nopen 4 6\nend\n";
 
 /// Makes an owed range done, and owes a new one.
-const CHANGE_2: &[u8] =
+pub(crate) const CHANGE_2: &[u8] =
     b"gobblin-delta 2\nrun 2\npipelines 0\ntotals 2 0 2 0\nbranch 0 2 0 0\npartition a 9\ndone 4 6 0\nopen 6 9\nend\n";
 
 /// Adds a pipeline and a partition.
-const CHANGE_3: &[u8] =
+pub(crate) const CHANGE_3: &[u8] =
     b"gobblin-delta 2\nrun 3\npipelines 1\npipeline 1\nx=1\ntotals 4 0 4 0\nbranch 0 4 0 0\nbranch 1 0 0 0\npartition a 9\ndone 2 4 1\npartition b 3\ndone 0 3 1\nend\n";
 
 /// Changes the totals alone.
 const CHANGE_4: &[u8] =
     b"gobblin-delta 2\nrun 4\npipelines 0\ntotals 5 0 5 0\nbranch 0 5 0 0\nbranch 1 0 0 0\nend\n";
 
-const AFTER_2: &[u8] =
+pub(crate) const AFTER_2: &[u8] =
     b"gobblin-state 2\nrun 2\npipelines 1\npipeline 1\nwriter.format.0=json\ntotals 2 0 2 0\nbranch 0 2 0 0\npartition a 9\ndone 0 2 0\nopen 2 4\ndone 4 6 0\nopen 6 9\nend\n";
 
 const AFTER_4: &[u8] =
     b"gobblin-state 2\nrun 4\npipelines 2\npipeline 1\nwriter.format.0=json\npipeline 1\nx=1\ntotals 5 0 5 0\nbranch 0 5 0 0\nbranch 1 0 0 0\npartition a 9\ndone 0 2 0\ndone 2 4 1\ndone 4 6 0\nopen 6 9\npartition b 3\ndone 0 3 1\nend\n";
 
+/// The last line is spoilt.
+const SPOILT: &[u8] = b"gobblin-state 2\nrun 1\npipelines 0\ntotals 2 0 2 0\nbranch 0 2 0 0\nenx\n";
+
 /// The same in the first version.
-const OLD_BASE: &[u8] =
+pub(crate) const OLD_BASE: &[u8] =
     b"gobblin-state 1\nrun 1\npipeline 1\nwriter.format.0=json\ntotals 1 0 1 0\nbranch 0 1 0 0\npartition a 4\ndone 0 2\nopen 2 4\nend\n";
 
-const OLD_CHANGE: &[u8] =
+pub(crate) const OLD_CHANGE: &[u8] =
     b"gobblin-delta 1\nrun 2\ntotals 2 0 2 0\nbranch 0 2 0 0\npartition a 4\ndone 2 4\nend\n";
 
 const OLD_AFTER: &[u8] =
     b"gobblin-state 2\nrun 2\npipelines 1\npipeline 1\nwriter.format.0=json\ntotals 2 0 2 0\nbranch 0 2 0 0\npartition a 4\ndone 0 2 0\ndone 2 4 0\nend\n";
+
+/// What would be the next change if it were of the state's version.
+const NEW_CHANGE: &[u8] =
+    b"gobblin-delta 2\nrun 2\npipelines 0\ntotals 2 0 2 0\nbranch 0 2 0 0\npartition a 4\ndone 2 4 0\nend\n";
+
+const OLD_CHANGE_3: &[u8] = b"gobblin-delta 1\nrun 3\ntotals 2 0 2 0\nbranch 0 2 0 0\nend\n";
 
 /// Texts that are no change behind the state.
 const NO_CHANGES: [&[u8]; 21] = [
@@ -178,7 +187,8 @@ fn the_first_version_is_loaded(rt: HostRuntime) -> Result<(), Fail> {
 #[test]
 fn a_damaged_state_is_blamed(rt: HostRuntime) -> Result<(), Fail> {
     let text: &[u8] = b"gobblin-state 2\nrun 1\n";
-    blamed(&rt, rt.alloc(), &[(STATE, text), (SECOND, CHANGE_2)], STATE)
+    blamed(&rt, rt.alloc(), &[(STATE, text), (SECOND, CHANGE_2)], STATE)?;
+    blamed(&rt, rt.alloc(), &[(STATE, SPOILT)], STATE)
 }
 
 #[test]
@@ -210,6 +220,18 @@ fn a_later_change_is_blamed(rt: HostRuntime) -> Result<(), Fail> {
         (THIRD, CHANGE_2),
         (FOURTH, CHANGE_4),
     ];
+    blamed(&rt, rt.alloc(), &files, THIRD)?;
+    // One between them is gone.
+    let files = [(STATE, BASE), (SECOND, CHANGE_2), (FOURTH, CHANGE_4)];
+    blamed(&rt, rt.alloc(), &files, FOURTH)?;
+    blamed(&rt, rt.alloc(), &[(STATE, BASE), (THIRD, CHANGE_3)], THIRD)
+}
+
+#[test]
+fn a_change_of_the_other_version_is_blamed(rt: HostRuntime) -> Result<(), Fail> {
+    let files = [(STATE, OLD_BASE), (SECOND, NEW_CHANGE)];
+    blamed(&rt, rt.alloc(), &files, SECOND)?;
+    let files = [(STATE, OLD_AFTER), (THIRD, OLD_CHANGE_3)];
     blamed(&rt, rt.alloc(), &files, THIRD)
 }
 
