@@ -52,13 +52,15 @@ day_is_there lent name columns same none fits =
 -- ---- ends
 
 -- a record in a buffer that was empty
-pub one_record : (old new : List ℕ) (m : Option (List ℕ)) → old ≡ [] → concatenation (Some old) m ≡ Some new → m ≡ Some new
+pub one_record : (old new : List ℕ) (m : Option (List ℕ)) → old ≡ [] → concatenation (Some old) m ≡ Some new
+    → m ≡ Some new
 one_record old new m none made = sym (joined-nothing m) ∙ ap (λ o. concatenation (Some o) m) (sym none) ∙ made
 
 pub ends_killed : (k : ℕ) (m : Option (List ℕ)) (bytes : List ℕ) → EndsSo (kill k) m (item_end.Killed k) bytes
 ends_killed k m bytes b place n = refl
 
-pub ends_error : (k : ℕ) (m : Option (List ℕ)) (bytes : List ℕ) → m ≡ Some bytes → EndsSo (to_error k) m item_end.Error bytes
+pub ends_error : (k : ℕ) (m : Option (List ℕ)) (bytes : List ℕ) → m ≡ Some bytes
+    → EndsSo (to_error k) m item_end.Error bytes
 ends_error k m bytes made b place n = ap (row_made_of b place (to_error k, n)) made
 
 pub ends_written : (m : Option (List ℕ)) (bytes : List ℕ) → m ≡ Some bytes → EndsSo pass m item_end.Written bytes
@@ -103,7 +105,8 @@ branch_is spec f columns after chain day written_columns same chain_is after_is 
     let short_here : branch_is_short f ≡ true = ap branch_is_short same ∙ short in
     let behind = columns_through f.steps columns in
     let three = and_parts (is_none (first_refused f.steps columns)
-    && list_all (λ (p : PolicySpec). test_fits p.test behind) f.policies && writes_columns f.format behind) _ fits_here in
+    && list_all (λ (p : PolicySpec). test_fits p.test behind) f.policies && writes_columns f.format behind) _ fits_here
+    in
     let two = and_parts (is_none (first_refused f.steps columns)
     && list_all (λ (p : PolicySpec). test_fits p.test behind) f.policies) _ three.0 in
     let one = and_parts (is_none (first_refused f.steps columns)) _ two.0 in (

@@ -124,7 +124,8 @@ lines_whole (b ∷ bs) start begun =
 
 -- ---- what lines hold, and where they start
 
-clear_more : (begun : List ℕ) (b : ℕ) → has_no_feed begun ≡ true → nat_eq b 10 ≡ false → has_no_feed (begun ++ b ∷ []) ≡ true
+clear_more : (begun : List ℕ) (b : ℕ) → has_no_feed begun ≡ true → nat_eq b 10 ≡ false
+    → has_no_feed (begun ++ b ∷ []) ≡ true
 clear_more [] b clear other = rw other
 clear_more (c ∷ begun) b clear other = both (not (nat_eq c 10)) _ _ clear (λ rest. clear_more begun b rest other)
   where

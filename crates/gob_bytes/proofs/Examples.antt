@@ -3,8 +3,10 @@ use Rattle.std.proofs.Common.{◌≡◌, true, false, [], Some, None, refl, pos,
 use Rattle.std.proofs.Common.{ℕ, Bool, List, ◌∷◌, map, filter}
 use Rattle.std.specs.Prelude.{codes}
 use Rattle.std.specs.Fmt.{digits}
-use Rattle.gob_bytes.specs.Lines.{text_of, lines, lines_from, rest, rest_from, line_ends, first_end, last_end, ends_in_lf}
-use Rattle.gob_bytes.specs.Paths.{job_file, state_name, delta_name, sequence_name, attempt_folder, keeps_state, is_published}
+use Rattle.gob_bytes.specs.Lines.{text_of, lines, lines_from, rest, rest_from, line_ends, first_end, last_end}
+use Rattle.gob_bytes.specs.Lines.{ends_in_lf}
+use Rattle.gob_bytes.specs.Paths.{job_file, state_name, delta_name, sequence_name, attempt_folder, keeps_state}
+use Rattle.gob_bytes.specs.Paths.{is_published}
 use Rattle.gob_bytes.specs.Words.{words, numbered}
 use Rattle.gob_bytes.specs.Numbers.{number_read, integer_read}
 use Rattle.gob_bytes.specs.Names.{is_job_name, is_column_name, is_lower_or_digit, is_job_byte}
@@ -101,7 +103,8 @@ pub files_told :
 files_told = (refl, refl)
 
 pub words_written :
-    (words (codes "done") (codes "a" ∷ codes "b" ∷ []) ≡ codes "done a b\n") × (words (codes "done") [] ≡ codes "done\n")
+    (words (codes "done") (codes "a" ∷ codes "b" ∷ []) ≡ codes "done a b\n")
+    × (words (codes "done") [] ≡ codes "done\n")
     × (numbered (codes "counts") (12 ∷ 0 ∷ []) ≡ codes "counts 12 0\n")
 unfolding digits
 words_written = (refl, refl, refl)

@@ -1,5 +1,6 @@
 -- The lines of a text. Each ends at a line feed; what stands after the last line feed belongs to no line.
-use Rattle.std.specs.Prelude.{◌≡◌, ℕ, ◌+◌, ◌≤◌, Bool, true, false, cond, not, nat_eq, List, [], ◌∷◌, ◌++◌, map, length, All}
+use Rattle.std.specs.Prelude.{◌≡◌, ℕ, ◌+◌, ◌≤◌, Bool, true, false, cond, not, nat_eq, List, [], ◌∷◌, ◌++◌, map, length}
+use Rattle.std.specs.Prelude.{All}
 use Rattle.std.specs.declared.option.Option.{Option}
 use Rattle.std.specs.declared.option.Option.TheVariants.{None}
 use Rattle.std.specs.List.{flat_map, list_all, slice_get, last_or}
@@ -84,8 +85,8 @@ abbrev pub StandInARowFrom : ℕ → List Line → Type 0
 StandInARowFrom place [] = Unit {0}
 StandInARowFrom place (l ∷ ls) = (l.start ≡ place) × StandInARowFrom (end_of l) ls
 
--- the ends of a text's lines rise and lie within it, no line holds a line feed, the lines stand one behind the other, and
--- with the rest they are the whole text
+-- the ends of a text's lines rise and lie within it, no line holds a line feed, the lines stand one behind the other,
+-- and with the rest they are the whole text
 pub record LinesFill (bytes : List ℕ) : Type 0 where
   pub rising : IsStrictlyIncreasing (line_ends bytes)
   pub within : All (λ e. e ≤ length bytes) (line_ends bytes)

@@ -15,9 +15,10 @@ fault_of Failed = fault.Failed
 fault_of Memory = fault.Memory
 
 -- the first partition of the listing that is shorter than what was taken of it
-pub record NamesShrunk (parts : Table Marks) (listing : List (List ℕ × ℕ)) (part : List ℕ) (next size : ℕ) : Type 0 where
-  pub first : first_shrunk parts listing ≡ Some (part, size)
-  pub taken : next ≡ next_of parts part
+pub record NamesShrunk (parts : Table Marks) (listing : List (List ℕ × ℕ)) (part : List ℕ) (next size : ℕ) : Type 0
+  where
+    pub first : first_shrunk parts listing ≡ Some (part, size)
+    pub taken : next ≡ next_of parts part
 
 -- a partition that shrank is named; the source didn't fail
 abbrev pub IsShrunk : Table Marks → List (List ℕ × ℕ) → CutFault → Type 0

@@ -1,5 +1,6 @@
 -- Cuts of several partitions, taken in rounds.
-use Rattle.std.specs.Prelude.{◌≡◌, ℕ, ◌≤◌, ◌<◌, Bool, false, List, [], ◌∷◌, map, length, get_or, is_some, All, cond, nat_lt}
+use Rattle.std.specs.Prelude.{◌≡◌, ℕ, ◌≤◌, ◌<◌, Bool, false, List, [], ◌∷◌, map, length, get_or, is_some, All, cond}
+use Rattle.std.specs.Prelude.{nat_lt}
 use Rattle.std.specs.declared.option.Option.{Option}
 use Rattle.std.specs.declared.option.Option.TheVariants.{None, Some}
 use Rattle.std.specs.List.{flat_map}

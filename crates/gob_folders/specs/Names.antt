@@ -1,5 +1,6 @@
 -- Names below a folder, and the paths that they stand for.
-use Rattle.std.specs.Prelude.{◌≡◌, ◌≢◌, ◌⊎◌, ◌<◌, ℕ, Bool, true, false, ◌&&◌, not, nat_eq, nat_le, List, [], ◌∷◌, ◌++◌, length, codes, slice_index}
+use Rattle.std.specs.Prelude.{◌≡◌, ◌≢◌, ◌⊎◌, ◌<◌, ℕ, Bool, true, false, ◌&&◌, not, nat_eq, nat_le, List, [], ◌∷◌, ◌++◌}
+use Rattle.std.specs.Prelude.{length, codes, slice_index}
 use Rattle.std.specs.List.{list_all, slice_split}
 use Rattle.std.specs.Str.{bytes_eq}
 
@@ -8,7 +9,8 @@ has_no_nul bytes = list_all (λ b. not (nat_eq b 0)) bytes
 
 -- what may stand between two slashes: 1 to 255 bytes, none of them NUL, but not the folder itself or the one above it
 unfoldable pub is_component : List ℕ → Bool
-is_component part = nat_le 1 (length part) && not (bytes_eq part (codes ".")) && not (bytes_eq part (codes "..")) && nat_le (length part) 255 && has_no_nul part
+is_component part = nat_le 1 (length part) && not (bytes_eq part (codes ".")) && not (bytes_eq part (codes "..")) &&
+    nat_le (length part) 255 && has_no_nul part
 
 -- components with a slash between each two
 unfoldable pub is_name : List ℕ → Bool
@@ -40,7 +42,8 @@ named_or other (b ∷ bs) = b ∷ bs
 
 -- the folder that a path lies in: that of the process where there is no slash, and the topmost where it stands first
 abbrev pub IsParentOf : List ℕ → List ℕ → Type 0
-IsParentOf path parent = ((folder rest : List ℕ) × IsSplitAt path folder rest × (parent ≡ named_or (codes "/") folder)) ⊎ (HasNoSlash path × (parent ≡ codes "."))
+IsParentOf path parent = ((folder rest : List ℕ) × IsSplitAt path folder rest × (parent ≡ named_or (codes "/") folder))
+    ⊎ (HasNoSlash path × (parent ≡ codes "."))
 
 -- a name in a folder; a folder without a name is the one that names begin at
 abbrev pub below : List ℕ → List ℕ → List ℕ

@@ -19,7 +19,8 @@ pub struct Root<'a, H: FileSystem> {
 impl<'a, H: FileSystem> Root<'a, H> {
     /// The path of a file, which leads nowhere but below the folder.
     pub fn path_of(&self, name: &str) -> Result<String, FolderFault>
-        ensures path { IfOk result (λ path. (names.is_name name.now ≡ true) × (string_bytes path ≡ names.below (string_bytes self.now.path) name.now)) }
+        ensures path { IfOk result (λ path. (names.is_name name.now ≡ true)
+            × (string_bytes path ≡ names.below (string_bytes self.now.path) name.now)) }
         ensures refused { (result ≡ Err FolderFault.Failed) ↔ (names.is_name name.now ≡ false) }
     {
         if !is_name(name) {

@@ -1,5 +1,6 @@
 -- Lists that were added to, and loops that add.
-use Rattle.std.proofs.Common.{◌≡◌, ℕ, suc, ◌≤◌, ◌<◌, ◌+◌, List, [], ◌∷◌, ◌++◌, length, take, drop, get_or, refl, sym, ap, ◌∙◌, arith, take_all, append_assoc, Bool, true, false, ◌==◌}
+use Rattle.std.proofs.Common.{◌≡◌, ℕ, suc, ◌≤◌, ◌<◌, ◌+◌, List, [], ◌∷◌, ◌++◌, length, take, drop, get_or, refl, sym}
+use Rattle.std.proofs.Common.{ap, ◌∙◌, arith, take_all, append_assoc, Bool, true, false, ◌==◌}
 use Rattle.std.proofs.lemmas.List.{take-take, take_at, length-take, get_or_default, drop_more, drop_all}
 use Rattle.std.specs.List.{list_any}
 use Rattle.gob_formats.specs.Adding.{Keeps}

@@ -1,5 +1,6 @@
 -- The members of a record with their texts spell the object of its values.
-use Rattle.std.proofs.Common.{◌≡◌, ℕ, ◌+◌, ◌-◌, ◌<◌, ◌≤◌, ◌==◌, List, [], ◌∷◌, ◌++◌, length, drop, take, set, map, suc, get_or, Bool, true, false, refl, sym, ap, ◌∙◌, arith, append_assoc, Ordering}
+use Rattle.std.proofs.Common.{◌≡◌, ℕ, ◌+◌, ◌-◌, ◌<◌, ◌≤◌, ◌==◌, List, [], ◌∷◌, ◌++◌, length, drop, take, set, map, suc}
+use Rattle.std.proofs.Common.{get_or, Bool, true, false, refl, sym, ap, ◌∙◌, arith, append_assoc, Ordering}
 use Rattle.std.proofs.lemmas.Bool.{eqb-true}
 use Rattle.std.proofs.lemmas.List.{drop_more, set_split, map-append}
 use Rattle.std.specs.Prelude.{nat_lt, ◌||◌, ◌&&◌}
@@ -19,7 +20,8 @@ use Rattle.gob_meaning.specs.Formats.{value_data, members_of, json_record}
 use Rattle.gob_formats.specs.Escapes.{is_escaped, needs_escape}
 use Rattle.gob_formats.specs.declared.json_write.Member.{Member}
 use Rattle.gob_formats.specs.declared.json_write.Place.{Place}
-use Rattle.gob_formats.specs.Members.{Named, named, put_name, names_from, key_text, keyed, value_at, members_at, members_written}
+use Rattle.gob_formats.specs.Members.{Named, named, put_name, names_from, key_text, keyed, value_at, members_at}
+use Rattle.gob_formats.specs.Members.{members_written}
 use Rattle.gob_formats.proofs.Kept.{not_true}
 
 -- ---- the members in order

@@ -1,5 +1,6 @@
 -- What the code reads of a tree is what serde_json reads.
-use Rattle.std.proofs.Common.{◌≡◌, ℕ, Bool, true, false, cond, List, [], ◌∷◌, Some, None, Option, refl, sym, ap, ◌∙◌, subst, is_some, length, ◌==◌, arith}
+use Rattle.std.proofs.Common.{◌≡◌, ℕ, Bool, true, false, cond, List, [], ◌∷◌, Some, None, Option, refl, sym, ap, ◌∙◌}
+use Rattle.std.proofs.Common.{subst, is_some, length, ◌==◌, arith}
 use Rattle.std.specs.Prelude.{◌&&◌}
 use Rattle.std.specs.Option.{option_map, option_and_then}
 use Rattle.std.specs.Str.{bytes_eq, is_utf8}
@@ -18,7 +19,8 @@ use Rattle.gob_plan.specs.declared.rows.Value.{Value}
 use Rattle.gob_plan.specs.declared.rows.Value.TheVariants as value
 use Rattle.gob_plan.specs.declared.rows.Column.{Column}
 use Rattle.gob_meaning.specs.Formats.{row_of, value_before, member_value, member_or_null, member_values, json_line_rows}
-use Rattle.gob_formats.specs.Objects.{tree_of, finite, items_finite, members_finite, value_found, member_found, tree_values, object_values}
+use Rattle.gob_formats.specs.Objects.{tree_of, finite, items_finite, members_finite, value_found, member_found}
+use Rattle.gob_formats.specs.Objects.{tree_values, object_values}
 
 -- ---- a tree is read where its numbers are finite
 

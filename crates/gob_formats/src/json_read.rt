@@ -1,5 +1,6 @@
 //! Lines of json as rows.
-ghost use Rattle.std.specs.Prelude.{◌≡◌, ◌==◌, ◌<◌, IsTrue, length, slice_index, true, false, None, Some, IfOk, IfErr, OnOk, is_some, option_map, option_and_then};
+ghost use Rattle.std.specs.Prelude.{◌≡◌, ◌==◌, ◌<◌, IsTrue, length, slice_index, true, false, None, Some, IfOk, IfErr};
+ghost use Rattle.std.specs.Prelude.{OnOk, is_some, option_map, option_and_then};
 ghost use Rattle.json.specs.Find.{as_object};
 ghost use Rattle.json.specs.Value.{value_view, items_view, members_view};
 ghost use Rattle.serde_json.specs.Read.{number_of, number_from, float_of};
@@ -8,7 +9,8 @@ ghost use Rattle.gob_convert.specs.Made.{concatenation};
 ghost use Rattle.gob_plan.specs.declared.rows.Value.TheVariants as value_kind;
 ghost use Rattle.gob_meaning.specs.Formats.{json_line_rows};
 ghost use Rattle.gob_formats.specs.Adding.{Keeps};
-ghost use Rattle.gob_formats.specs.Objects.{tree_of, finite, items_finite, members_finite, integer_of, value_found, member_found, tree_values, object_values};
+ghost use Rattle.gob_formats.specs.Objects.{tree_of, finite, items_finite, members_finite, integer_of, value_found};
+ghost use Rattle.gob_formats.specs.Objects.{member_found, tree_values, object_values};
 
 use fast_float::Numeral;
 use gob_convert::ConvertFault;

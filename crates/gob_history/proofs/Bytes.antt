@@ -44,10 +44,15 @@ unfolding utf8.encode
 encoded_bytes c small =
     cond_both (ltb c 128) _ _ AreBytes (λ e. let l = ltb-true c 128 e in one c (omega (arith, l))) (λ _.
     cond_both (ltb c 2048) _ _ AreBytes
-    (λ e. two (192 + c / 64) (utf8.next c) (part_small c 64 32 192 (over_64 c (ltb-true c 2048 e)) (omega arith)) (next_small c)) (λ _.
+    (λ e. two (192 + c / 64) (utf8.next c) (part_small c 64 32 192 (over_64 c (ltb-true c 2048 e)) (omega arith))
+    (next_small c)) (λ _.
     cond_both (ltb c 65536) _ _ AreBytes
-    (λ e. three (224 + c / 4096) (utf8.next (c / 64)) (utf8.next c) (part_small c 4096 16 224 (over_4096 c (ltb-true c 65536 e)) (omega arith)) (next_small (c / 64)) (next_small c))
-    (λ _. four (240 + c / 262144) (utf8.next (c / 4096)) (utf8.next (c / 64)) (utf8.next c) (part_small c 262144 5 240 (over_262144 c small) (omega arith)) (next_small (c / 4096)) (next_small (c / 64)) (next_small c))))
+    (λ e. three (224 + c / 4096) (utf8.next (c / 64)) (utf8.next c)
+    (part_small c 4096 16 224 (over_4096 c (ltb-true c 65536 e)) (omega arith)) (next_small (c / 64))
+    (next_small c))
+    (λ _. four (240 + c / 262144) (utf8.next (c / 4096)) (utf8.next (c / 64)) (utf8.next c)
+    (part_small c 262144 5 240 (over_262144 c small) (omega arith)) (next_small (c / 4096)) (next_small (c / 64))
+    (next_small c))))
 
 scalar_small : (c : ℕ) → utf8.scalar c ≡ true → c < 1114112
 scalar_small c e = ⊎_elim (λ l. omega (arith, l)) (λ l. l.1) (utf8.scalar_cases c e)

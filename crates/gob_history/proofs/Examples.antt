@@ -1,5 +1,7 @@
 -- The worked example: one plain run, from an empty volume.
-use Rattle.std.proofs.Common.{⊎_elim, ◌||◌, ◌≡◌, ◌≢◌, inl, inr, ℕ, zero, suc, ◌<◌, Bool, true, false, cond, ◌&&◌, nat_eq, nat_lt, List, [], ◌∷◌, ◌++◌, take, drop, option_map, unwrap_or, refl, sym, ap, subst, ◌∙◌, Some, None, arith, lit<, codes, append-nil}
+use Rattle.std.proofs.Common.{⊎_elim, ◌||◌, ◌≡◌, ◌≢◌, inl, inr, ℕ, zero, suc, ◌<◌, Bool, true, false, cond, ◌&&◌}
+use Rattle.std.proofs.Common.{nat_eq, nat_lt, List, [], ◌∷◌, ◌++◌, take, drop, option_map, unwrap_or, refl, sym, ap}
+use Rattle.std.proofs.Common.{subst, ◌∙◌, Some, None, arith, lit<, codes, append-nil}
 use Rattle.std.specs.declared.option.Option.{Option}
 use Rattle.std.specs.Fmt.{digits}
 use Rattle.std.specs.List.{Contains, All, IsDistinct, list_all, slice_get}
@@ -64,7 +66,8 @@ cond_some false x m e = absurd (let no : None ≡ Some m = e in cc)
 
 -- the one partition
 the_part : (part : List ℕ) (m : Marks) → marks_at plain_state part ≡ Some m → (part ≡ codes "a.log") × (the_marks ≡ m)
-the_part part m e = let r = cond_some (bytes_eq part (codes "a.log")) the_marks m e in (same_name part (codes "a.log") r.0, r.1)
+the_part part m e = let r = cond_some (bytes_eq part (codes "a.log")) the_marks m e in
+    (same_name part (codes "a.log") r.0, r.1)
 
 tiled_marks : Tiled the_marks
 tiled_marks = record { finished = (omega arith, omega arith, tt); owed = tt; once = once }
@@ -83,18 +86,24 @@ tiled_state = record {
     indexed d (suc k, below, is) = absurd (omega (arith, below))
 
 settings : List (List ℕ × List ℕ)
-settings = (codes "source.format", codes "lines") ∷ (codes "source.columns", []) ∷ (codes "source.skip.header", codes "false") ∷ (codes "converter.classes", [])
-    ∷ (codes "fork.operator.class", codes "all") ∷ (codes "fork.branches", codes "1") ∷ (codes "fork.test.0", []) ∷ (codes "converter.classes.0", [])
-    ∷ (codes "qualitychecker.row.policies.0", []) ∷ (codes "qualitychecker.row.policy.types.0", []) ∷ (codes "writer.format.0", codes "lines") ∷ (codes "writer.placer.0", codes "plain") ∷ []
+settings = (codes "source.format", codes "lines") ∷ (codes "source.columns", []) ∷
+    (codes "source.skip.header", codes "false") ∷ (codes "converter.classes", [])
+    ∷ (codes "fork.operator.class", codes "all") ∷ (codes "fork.branches", codes "1") ∷ (codes "fork.test.0", []) ∷
+    (codes "converter.classes.0", [])
+    ∷ (codes "qualitychecker.row.policies.0", []) ∷ (codes "qualitychecker.row.policy.types.0", []) ∷
+    (codes "writer.format.0", codes "lines") ∷ (codes "writer.placer.0", codes "plain") ∷ []
 
 bytes_small : (v : List ℕ) → list_all (λ b. nat_lt b 256) v ≡ true → All (λ b. b < 256) v
 bytes_small [] e = All-nil (λ b. b < 256)
-bytes_small (b ∷ bs) e = let p = and_parts (nat_lt b 256) (list_all (λ c. nat_lt c 256) bs) e in All-cons (λ c. c < 256) b bs (ltb-true b 256 p.0) (bytes_small bs p.1)
+bytes_small (b ∷ bs) e = let p = and_parts (nat_lt b 256) (list_all (λ c. nat_lt c 256) bs) e in
+    All-cons (λ c. c < 256) b bs (ltb-true b 256 p.0) (bytes_small bs p.1)
 
-settings_fit : (ss : List (List ℕ × List ℕ)) → list_all (λ s. is_key s.0 && list_all (λ b. nat_lt b 256) s.1) ss ≡ true → All (λ s. IsSetting s.0 s.1) ss
+settings_fit : (ss : List (List ℕ × List ℕ)) → list_all (λ s. is_key s.0 && list_all (λ b. nat_lt b 256) s.1) ss ≡ true
+    → All (λ s. IsSetting s.0 s.1) ss
 settings_fit [] e = All-nil (λ s. IsSetting s.0 s.1)
 settings_fit (s ∷ ss) e =
-    let p = and_parts (is_key s.0 && list_all (λ b. nat_lt b 256) s.1) (list_all (λ t. is_key t.0 && list_all (λ b. nat_lt b 256) t.1) ss) e in
+    let p = and_parts (is_key s.0 && list_all (λ b. nat_lt b 256) s.1)
+    (list_all (λ t. is_key t.0 && list_all (λ b. nat_lt b 256) t.1) ss) e in
     let q = and_parts (is_key s.0) (list_all (λ b. nat_lt b 256) s.1) p.0 in
     All-cons (λ t. IsSetting t.0 t.1) s ss (record { keyed = q.0; bytes = bytes_small s.1 q.1 }) (settings_fit ss p.1)
 
@@ -102,7 +111,8 @@ proper : Proper plain_state
 unfolding IsDistinct settings escaped is_utf8 chars lib.Utf8.encode
 proper = record {
   run = lit< tt;
-  pipelines = All-cons IsKeptPipeline plain_pipeline [] (settings, settings_fit settings refl, refl, lit< tt) (All-nil IsKeptPipeline);
+  pipelines = All-cons IsKeptPipeline plain_pipeline [] (settings, settings_fit settings refl, refl, lit< tt)
+      (All-nil IsKeptPipeline);
   few = lit< tt;
   differ = (tt, tt);
   totals = record {
@@ -110,7 +120,8 @@ proper = record {
     bad = lit< tt;
     rows = lit< tt;
     unrouted = lit< tt;
-    branches = All-cons SmallBranch (record { written = 2; errors = 0; optional = 0 }) [] (record { written = lit< tt; errors = lit< tt; optional = lit< tt }) (All-nil SmallBranch);
+    branches = All-cons SmallBranch (record { written = 2; errors = 0; optional = 0 }) []
+        (record { written = lit< tt; errors = lit< tt; optional = lit< tt }) (All-nil SmallBranch);
   };
   branches = (omega arith, omega arith);
   names = tt;
@@ -122,11 +133,15 @@ proper = record {
 }
 
 -- what the two lines make, and nothing else
-only_made : (target : Target) (content : List ℕ) → sent_to target (deliveries_of (unit_fold plain_plan 0 (codes "x\ny\n"))) ≡ content → content ≢ [] → (target ≡ out 0 []) × (content ≡ codes "x\ny\n")
-unfolding sent_to unit_fold lines_from line_rows record_of made_in_branch line_made ruling picks place_of is_utf8 chars lib.Utf8.encode
+only_made : (target : Target) (content : List ℕ) → sent_to target
+    (deliveries_of (unit_fold plain_plan 0 (codes "x\ny\n"))) ≡ content → content ≢ [] → (target ≡ out 0 [])
+    × (content ≡ codes "x\ny\n")
+unfolding sent_to unit_fold lines_from line_rows record_of made_in_branch line_made ruling picks place_of is_utf8 chars
+    lib.Utf8.encode
 only_made (out b p) content e some = cases (nat_eq b 0 && bytes_eq p []) refl e
   where
-    cases : (v : Bool) → (nat_eq b 0 && bytes_eq p []) ≡ v → cond v (codes "x\n") [] ++ (cond v (codes "y\n") [] ++ []) ≡ content → (out b p ≡ out 0 []) × (content ≡ codes "x\ny\n")
+    cases : (v : Bool) → (nat_eq b 0 && bytes_eq p []) ≡ v → cond v (codes "x\n") []
+        ++ (cond v (codes "y\n") [] ++ []) ≡ content → (out b p ≡ out 0 []) × (content ≡ codes "x\ny\n")
     cases true is e =
         let q = and_parts (nat_eq b 0) (bytes_eq p []) is in
         let zeroth : b ≡ 0 = eqb-true b 0 q.0 in
@@ -136,36 +151,48 @@ only_made (out b p) content e some = cases (nat_eq b 0 && bytes_eq p []) refl e
 only_made (err b p) content e some = absurd (some (sym e))
 only_made bad content e some = absurd (some (sym e))
 
-bytes_are : (archive : Held) → HasTwoLines archive → bytes_in archive (codes "a.log") (record { lo = 0; hi = 4 }) ≡ codes "x\ny\n"
+bytes_are : (archive : Held) → HasTwoLines archive → bytes_in archive (codes "a.log") (record { lo = 0; hi = 4 }) ≡
+    codes "x\ny\n"
 unfolding bytes_from
 bytes_are archive at = ap (λ o. take 4 (drop 0 (unwrap_or o []))) at
 
-made_file : IsMade plain_plan (codes "a.log") (record { lo = 0; hi = 4 }) (codes "x\ny\n") (codes "out/0/a.log@00000000000000000000-00000000000000000004.txt") (codes "x\ny\n")
-unfolding digits padded offset escaped target_name sent_to unit_fold lines_from line_rows record_of made_in_branch line_made ruling picks place_of is_utf8 chars lib.Utf8.encode
+made_file : IsMade plain_plan (codes "a.log") (record { lo = 0; hi = 4 }) (codes "x\ny\n")
+    (codes "out/0/a.log@00000000000000000000-00000000000000000004.txt") (codes "x\ny\n")
+unfolding digits padded offset escaped target_name sent_to unit_fold lines_from line_rows record_of made_in_branch
+    line_made ruling picks place_of is_utf8 chars lib.Utf8.encode
 made_file = record { target = out 0 []; sends = refl; some = λ e. cc; called = refl }
 
-named_file : (target : Target) (path : List ℕ) → target ≡ out 0 [] → target_name plain_plan (codes "a.log") 0 4 target ≡ path → under (codes "j1") path ≡ the_file
+named_file : (target : Target) (path : List ℕ) → target ≡ out 0 []
+    → target_name plain_plan (codes "a.log") 0 4 target ≡ path → under (codes "j1") path ≡ the_file
 unfolding digits padded offset escaped target_name
-named_file target path is called = ap (under (codes "j1")) (sym called ∙ ap (target_name plain_plan (codes "a.log") 0 4) is)
+named_file target path is called = ap (under (codes "j1")) (sym called
+    ∙ ap (target_name plain_plan (codes "a.log") 0 4) is)
 
 plain_has : plan_of plain_pipeline ≡ Some (without_rules plain_plan)
 plain_has = plain_text_are
 
 -- what is expected of the example's state
-expected_is : (archive : Held) (name content : List ℕ) → HasTwoLines archive → IsExpected (codes "j1") plain_state archive name content → (name ≡ the_file) × (content ≡ codes "x\ny\n")
+expected_is : (archive : Held) (name content : List ℕ) → HasTwoLines archive
+    → IsExpected (codes "j1") plain_state archive name content → (name ≡ the_file) × (content ≡ codes "x\ny\n")
 expected_is archive name content at e =
     let part = the_part e.part e.marks e.of_part in
     let range = one_done e.done (subst (λ (m : Marks). Contains m.finished e.done) (sym part.1) e.of_marks) in
-    let pipe : plain_pipeline ≡ e.pipeline = let h : Some plain_pipeline ≡ Some e.pipeline = ap (λ (d : Done). slice_get (plain_pipeline ∷ []) d.pipeline) range ∙ e.of_state in cc in
-    let plan : e.plan ≡ without_rules plain_plan = let h : Some e.plan ≡ Some (without_rules plain_plan) = sym e.of_pipeline ∙ (ap plan_of (sym pipe) ∙ plain_has) in cc in
+    let pipe : plain_pipeline ≡ e.pipeline = let h : Some plain_pipeline ≡ Some e.pipeline =
+    ap (λ (d : Done). slice_get (plain_pipeline ∷ []) d.pipeline) range ∙ e.of_state in cc in
+    let plan : e.plan ≡ without_rules plain_plan = let h : Some e.plan ≡ Some (without_rules plain_plan) =
+    sym e.of_pipeline ∙ (ap plan_of (sym pipe) ∙ plain_has) in cc in
     let one : IsMade e.plan (codes "a.log") e.done.span (bytes_in archive (codes "a.log") e.done.span) e.path content =
     subst (λ q. IsMade e.plan q e.done.span (bytes_in archive q e.done.span) e.path content) part.0 e.made in
-    let two : IsMade e.plan (codes "a.log") (record { lo = 0; hi = 4 }) (bytes_in archive (codes "a.log") (record { lo = 0; hi = 4 })) e.path content =
-    subst (λ (d : Done). IsMade e.plan (codes "a.log") d.span (bytes_in archive (codes "a.log") d.span) e.path content) (sym range) one in
+    let two : IsMade e.plan (codes "a.log") (record { lo = 0; hi = 4 })
+    (bytes_in archive (codes "a.log") (record { lo = 0; hi = 4 })) e.path content =
+    subst (λ (d : Done). IsMade e.plan (codes "a.log") d.span (bytes_in archive (codes "a.log") d.span) e.path content)
+    (sym range) one in
     let made : IsMade plain_plan (codes "a.log") (record { lo = 0; hi = 4 }) (codes "x\ny\n") e.path content =
     subst (λ b. IsMade plain_plan (codes "a.log") (record { lo = 0; hi = 4 }) b e.path content) (bytes_are archive at)
-    (made_without plain_plan (codes "a.log") (record { lo = 0; hi = 4 }) (bytes_in archive (codes "a.log") (record { lo = 0; hi = 4 })) e.path content
-    (subst (λ p. IsMade p (codes "a.log") (record { lo = 0; hi = 4 }) (bytes_in archive (codes "a.log") (record { lo = 0; hi = 4 })) e.path content) plan two)) in
+    (made_without plain_plan (codes "a.log") (record { lo = 0; hi = 4 })
+    (bytes_in archive (codes "a.log") (record { lo = 0; hi = 4 })) e.path content
+    (subst (λ p. IsMade p (codes "a.log") (record { lo = 0; hi = 4 })
+    (bytes_in archive (codes "a.log") (record { lo = 0; hi = 4 })) e.path content) plan two)) in
     let is = only_made made.target content made.sends made.some in
     (e.called ∙ named_file made.target e.path is.0 made.called, is.1)
   where
@@ -173,7 +200,8 @@ expected_is archive name content at e =
     one_done d (zero, below, is) = is
     one_done d (suc k, below, is) = absurd (omega (arith, below))
 
-expects_file : (archive : Held) → HasTwoLines archive → IsExpected (codes "j1") plain_state archive the_file (codes "x\ny\n")
+expects_file : (archive : Held) → HasTwoLines archive → IsExpected (codes "j1") plain_state archive the_file
+    (codes "x\ny\n")
 expects_file archive at = record {
   part = codes "a.log";
   marks = the_marks;
@@ -185,8 +213,12 @@ expects_file archive at = record {
   plan = without_rules plain_plan;
   of_pipeline = plain_has;
   path = codes "out/0/a.log@00000000000000000000-00000000000000000004.txt";
-  made = made_with plain_plan (codes "a.log") (record { lo = 0; hi = 4 }) (bytes_in archive (codes "a.log") (record { lo = 0; hi = 4 })) (codes "out/0/a.log@00000000000000000000-00000000000000000004.txt") (codes "x\ny\n")
-      (subst (λ b. IsMade plain_plan (codes "a.log") (record { lo = 0; hi = 4 }) b (codes "out/0/a.log@00000000000000000000-00000000000000000004.txt") (codes "x\ny\n")) (sym (bytes_are archive at)) made_file);
+  made = made_with plain_plan (codes "a.log") (record { lo = 0; hi = 4 })
+      (bytes_in archive (codes "a.log") (record { lo = 0; hi = 4 }))
+      (codes "out/0/a.log@00000000000000000000-00000000000000000004.txt") (codes "x\ny\n")
+      (subst (λ b. IsMade plain_plan (codes "a.log") (record { lo = 0; hi = 4 }) b
+      (codes "out/0/a.log@00000000000000000000-00000000000000000004.txt") (codes "x\ny\n"))
+      (sym (bytes_are archive at)) made_file);
   called = refl;
 }
 
@@ -194,18 +226,24 @@ expects_file archive at = record {
 abbrev IsFile : List ℕ → File → Type 0
 IsFile name f = (name ≡ the_file) × (clean (codes "x\ny\n") ≡ f)
 
-published_is : (name : List ℕ) (f : File) → is_published (codes "j1") name ≡ true → after_plain name ≡ Some f → IsFile name f
+published_is : (name : List ℕ) (f : File) → is_published (codes "j1") name ≡ true → after_plain name ≡ Some f
+    → IsFile name f
 published_is name f p e = cases (bytes_eq name the_file) refl e
   where
-    other : (b : Bool) → bytes_eq name (codes "j1/state") ≡ b → cond b (Some (clean (state_spelling version_2 plain_state))) None ≡ Some f → IsFile name f
-    other true is e = absurd (let no : false ≡ true = sym (ap (is_published (codes "j1")) (same_name name (codes "j1/state") is)) ∙ p in cc)
+    other : (b : Bool) → bytes_eq name (codes "j1/state") ≡ b
+        → cond b (Some (clean (state_spelling version_2 plain_state))) None ≡ Some f → IsFile name f
+    other true is e = absurd (let no : false ≡ true = sym (ap (is_published (codes "j1"))
+        (same_name name (codes "j1/state") is)) ∙ p in cc)
     other false is e = absurd (let no : None ≡ Some f = e in cc)
 
-    cases : (b : Bool) → bytes_eq name the_file ≡ b → cond b (Some (clean (codes "x\ny\n"))) (put no_files (codes "j1/state") (Some (clean (state_spelling version_2 plain_state))) name) ≡ Some f → IsFile name f
+    cases : (b : Bool) → bytes_eq name the_file ≡ b → cond b (Some (clean (codes "x\ny\n")))
+        (put no_files (codes "j1/state") (Some (clean (state_spelling version_2 plain_state))) name) ≡ Some f
+        → IsFile name f
     cases true is e = (same_name name the_file is, cc)
     cases false is e = other (bytes_eq name (codes "j1/state")) refl e
 
-file_of : (o : Option File) (content : List ℕ) → option_map contents_of o ≡ Some content → (f : File) × (o ≡ Some f) × (contents_of f ≡ content)
+file_of : (o : Option File) (content : List ℕ) → option_map contents_of o ≡ Some content → (f : File) × (o ≡ Some f)
+    × (contents_of f ≡ content)
 file_of None content e = absurd (let no : None ≡ Some content = e in cc)
 file_of (Some f) content e = (f, refl, cc)
 
@@ -213,48 +251,64 @@ line_lies : LiesIn (codes "x\ny\n") the_marks
 unfolding lines_from
 line_lies = record {
   reached = omega arith;
-  lines = All-cons (LiesOnLines (codes "x\ny\n")) (record { lo = 0; hi = 4 }) [] (record { lo = inl refl; hi = (1, lit< tt, refl) }) (All-nil (LiesOnLines (codes "x\ny\n")));
+  lines = All-cons (LiesOnLines (codes "x\ny\n")) (record { lo = 0; hi = 4 }) []
+      (record { lo = inl refl; hi = (1, lit< tt, refl) }) (All-nil (LiesOnLines (codes "x\ny\n")));
 }
 
 abbrev counts_from : List ℕ → Counts
-counts_from bytes = sum_of (counts_of (without_rules plain_plan) (unit_fold (without_rules plain_plan) 0 bytes)) (no_counts 0)
+counts_from bytes = sum_of (counts_of (without_rules plain_plan) (unit_fold (without_rules plain_plan) 0 bytes))
+    (no_counts 0)
 
 totals_from : SameCounts plain_state.totals (counts_from (codes "x\ny\n"))
-unfolding sum_of counts_of unit_fold lines_from line_rows record_of made_in_branch line_made ruling picks place_of is_utf8 chars lib.Utf8.encode
+unfolding sum_of counts_of unit_fold lines_from line_rows record_of made_in_branch line_made ruling picks place_of
+    is_utf8 chars lib.Utf8.encode
 totals_from = record { records = refl; bad = refl; rows = refl; unrouted = refl; branches = λ i. refl }
 
 totals_are : (archive : Held) → HasTwoLines archive → SameCounts plain_state.totals (counted_in plain_state archive)
 unfolding counted_in
 totals_are archive at =
-    subst (λ o. SameCounts plain_state.totals (sum_of (counts_where o archive (codes "a.log") (record { lo = 0; hi = 4 })) (no_counts 0))) (sym plain_has)
+    subst (λ o. SameCounts plain_state.totals (sum_of (counts_where o archive (codes "a.log")
+    (record { lo = 0; hi = 4 })) (no_counts 0))) (sym plain_has)
     (subst (λ b. SameCounts plain_state.totals (counts_from b)) (sym (bytes_are archive at)) totals_from)
 
 sound : (archive : Held) → HasTwoLines archive → Sound (codes "j1") archive plain_state after_plain
 sound archive at = record {
   tiled = tiled_state;
   plans = (λ none. (let no : Some (without_rules plain_plan) ≡ None = sym plain_has ∙ none in cc), tt);
-  within = λ part m e. let r = the_part part m e in (codes "x\ny\n", ap (at_name archive) r.0 ∙ at, subst (LiesIn (codes "x\ny\n")) r.1 line_lies);
+  within = λ part m e. let r = the_part part m e in (
+    codes "x\ny\n",
+    ap (at_name archive) r.0 ∙ at,
+    subst (LiesIn (codes "x\ny\n")) r.1 line_lies,
+  );
   totals = totals_are archive at;
   files = λ name content p. (
     λ e.
         let f = file_of (after_plain name) content e in
         let is = published_is name f.0 p f.1 in
         let text : codes "x\ny\n" ≡ content = ap contents_of is.1 ∙ f.2 in
-        subst (λ c. IsExpected (codes "j1") plain_state archive name c) text (subst (λ n. IsExpected (codes "j1") plain_state archive n (codes "x\ny\n")) (sym is.0) (expects_file archive at)),
-    λ e. let is = expected_is archive name content at e in ap (contents_at after_plain) is.0 ∙ ap (λ c. Some c) (sym is.1),
+        subst (λ c. IsExpected (codes "j1") plain_state archive name c) text
+        (subst (λ n. IsExpected (codes "j1") plain_state archive n (codes "x\ny\n")) (sym is.0)
+        (expects_file archive at)),
+    λ e. let is = expected_is archive name content at e in ap (contents_at after_plain) is.0
+        ∙ ap (λ c. Some c) (sym is.1),
   );
 }
 
 -- the example has no file in a folder that has neither of its names
-none_below : (folder : List ℕ) → begins_with folder (codes "j1/state") ≡ false → begins_with folder the_file ≡ false → (name : List ℕ) → begins_with folder name ≡ true → after_plain name ≡ None
+none_below : (folder : List ℕ) → begins_with folder (codes "j1/state") ≡ false → begins_with folder the_file ≡ false
+    → (name : List ℕ) → begins_with folder name ≡ true → after_plain name ≡ None
 none_below folder no_state no_file name below = cases (bytes_eq name the_file) refl
   where
-    other : (b : Bool) → bytes_eq name (codes "j1/state") ≡ b → cond b (Some (clean (state_spelling version_2 plain_state))) None ≡ None
-    other true is = absurd (let no : false ≡ true = sym no_state ∙ (sym (ap (begins_with folder) (same_name name (codes "j1/state") is)) ∙ below) in cc)
+    other : (b : Bool) → bytes_eq name (codes "j1/state") ≡ b
+        → cond b (Some (clean (state_spelling version_2 plain_state))) None ≡ None
+    other true is = absurd (let no : false ≡ true = sym no_state
+        ∙ (sym (ap (begins_with folder) (same_name name (codes "j1/state") is)) ∙ below) in cc)
     other false is = refl
 
-    cases : (b : Bool) → bytes_eq name the_file ≡ b → cond b (Some (clean (codes "x\ny\n"))) (put no_files (codes "j1/state") (Some (clean (state_spelling version_2 plain_state))) name) ≡ None
-    cases true is = absurd (let no : false ≡ true = sym no_file ∙ (sym (ap (begins_with folder) (same_name name the_file is)) ∙ below) in cc)
+    cases : (b : Bool) → bytes_eq name the_file ≡ b → cond b (Some (clean (codes "x\ny\n")))
+        (put no_files (codes "j1/state") (Some (clean (state_spelling version_2 plain_state))) name) ≡ None
+    cases true is = absurd (let no : false ≡ true = sym no_file
+        ∙ (sym (ap (begins_with folder) (same_name name the_file is)) ∙ below) in cc)
     cases false is = other (bytes_eq name (codes "j1/state")) refl
 
 unstaged : (name : List ℕ) → begins_with (staging (codes "j1")) name ≡ true → after_plain name ≡ None
@@ -266,15 +320,25 @@ no_changes = none_below (delta_folder (codes "j1")) refl refl
 stores_plain : Stores (codes "j1") after_plain (Some plain_state)
 stores_plain = (
   Some (base_alone plain_state),
-  (record { base = refl; deltas = λ name p. ap (option_map contents_of) (no_changes name p) }, record { base = proper; fits = tt; later = tt }),
+  (
+    record { base = refl; deltas = λ name p. ap (option_map contents_of) (no_changes name p) },
+    record { base = proper; fits = tt; later = tt },
+  ),
   refl,
 )
 
-state_clean : (name : List ℕ) (f : File) → keeps_state (codes "j1") name ≡ true → after_plain name ≡ Some f → (bytes : List ℕ) × (f ≡ clean bytes)
+state_clean : (name : List ℕ) (f : File) → keeps_state (codes "j1") name ≡ true → after_plain name ≡ Some f
+    → (bytes : List ℕ) × (f ≡ clean bytes)
 state_clean name f p e = cases (bytes_eq name (codes "j1/state")) refl p
   where
-    cases : (b : Bool) → bytes_eq name (codes "j1/state") ≡ b → (b || begins_with (delta_folder (codes "j1")) name) ≡ true → (bytes : List ℕ) × (f ≡ clean bytes)
-    cases true is p = (state_spelling version_2 plain_state, let h : Some (clean (state_spelling version_2 plain_state)) ≡ Some f = sym (ap after_plain (same_name name (codes "j1/state") is)) ∙ e in same_file f (clean (state_spelling version_2 plain_state)) h)
+    cases : (b : Bool) → bytes_eq name (codes "j1/state") ≡ b
+        → (b || begins_with (delta_folder (codes "j1")) name) ≡ true → (bytes : List ℕ) × (f ≡ clean bytes)
+    cases true is p = (
+      state_spelling version_2 plain_state,
+      let h : Some (clean (state_spelling version_2 plain_state))
+          ≡ Some f = sym (ap after_plain (same_name name (codes "j1/state") is)) ∙ e in
+          same_file f (clean (state_spelling version_2 plain_state)) h,
+    )
       where
         same_file : (a b : File) → Some b ≡ Some a → a ≡ b
         same_file a b h = let k : b ≡ a = cc in sym k
@@ -282,7 +346,16 @@ state_clean name f p e = cases (bytes_eq name (codes "j1/state")) refl p
 
 nothing : (archive : Held) → AllRecoverTo (codes "j1") archive None no_files
 nothing archive = standing (codes "j1") archive None no_files no_files
-    (record { stores = (None, record { base = refl; deltas = λ name p. refl }, refl); sound = λ name p. refl; clean = record { state = λ name f p e. absurd (let no : None ≡ Some f = e in cc); published = λ name f p e. absurd (let no : None ≡ Some f = e in cc) } })
+    (record {
+      stores = (None, record { base = refl; deltas = λ name p. refl }, refl);
+      sound = λ name p. refl;
+      clean =
+          record {
+            state = λ name f p e. absurd (let no : None ≡ Some f = e in cc);
+            published = λ name f p e.
+                absurd (let no : None ≡ Some f = e in cc);
+          };
+    })
     (settles_itself (codes "j1") no_files refl (λ name e. refl))
 
 run : (archive : Held) → HasTwoLines archive → AllRecoverTo (codes "j1") archive (Some plain_state) after_plain
@@ -298,41 +371,54 @@ run archive at = standing (codes "j1") archive (Some plain_state) after_plain af
     (settles_itself (codes "j1") after_plain refl unstaged)
 
 state_left : state_after job two_lines [] None ≡ Some plain_state
-unfolding groups_of digits escaped is_utf8 chars lib.Utf8.encode lines_from bytes_from test_holds unit_fold counts_of stop_of picks place_of line_rows record_of made_in_branch line_made ruling warnings_of verdict_of sum_of units_of_parts next_state own_pulls turns_of verdicts_of
+unfolding groups_of digits escaped is_utf8 chars lib.Utf8.encode lines_from bytes_from test_holds unit_fold counts_of
+    stop_of picks place_of line_rows record_of made_in_branch line_made ruling warnings_of verdict_of sum_of
+    units_of_parts next_state own_pulls turns_of verdicts_of
 state_left = refl
 
 states_are : states_of_run job two_lines [] None ≡ None ∷ Some plain_state ∷ []
-unfolding groups_of digits escaped is_utf8 chars lib.Utf8.encode lines_from bytes_from test_holds unit_fold counts_of stop_of picks place_of line_rows record_of made_in_branch line_made ruling warnings_of verdict_of sum_of units_of_parts next_state own_pulls turns_of verdicts_of
+unfolding groups_of digits escaped is_utf8 chars lib.Utf8.encode lines_from bytes_from test_holds unit_fold counts_of
+    stop_of picks place_of line_rows record_of made_in_branch line_made ruling warnings_of verdict_of sum_of
+    units_of_parts next_state own_pulls turns_of verdicts_of
 states_are = refl
 
 the_unit : Judged
 the_unit = (fresh (codes "a.log") 0 4, good (lines_written 2) [])
 
 units_done : done_units job two_lines [] None ≡ the_unit ∷ []
-unfolding groups_of the_unit digits escaped is_utf8 chars lib.Utf8.encode lines_from bytes_from test_holds unit_fold counts_of stop_of picks place_of line_rows record_of made_in_branch line_made ruling warnings_of verdict_of sum_of units_of_parts own_pulls turns_of verdicts_of
+unfolding groups_of the_unit digits escaped is_utf8 chars lib.Utf8.encode lines_from bytes_from test_holds unit_fold
+    counts_of stop_of picks place_of line_rows record_of made_in_branch line_made ruling warnings_of verdict_of sum_of
+    units_of_parts own_pulls turns_of verdicts_of
 units_done = refl
 
 tells_plan : TellsPlan job
 tells_plan = plain_has
 
-publishes_file : IsPublished (codes "j1") plain_plan two_lines (done_units job two_lines [] None) the_file (codes "x\ny\n")
+publishes_file : IsPublished (codes "j1") plain_plan two_lines (done_units job two_lines [] None) the_file
+    (codes "x\ny\n")
 unfolding the_unit
 publishes_file = record {
   unit = the_unit;
   of_units = subst (λ js. Contains js the_unit) (sym units_done) (0, lit< tt, refl);
   path = codes "out/0/a.log@00000000000000000000-00000000000000000004.txt";
-  made = subst (λ b. IsMade plain_plan (codes "a.log") (record { lo = 0; hi = 4 }) b (codes "out/0/a.log@00000000000000000000-00000000000000000004.txt") (codes "x\ny\n")) (sym (bytes_are two_lines refl)) made_file;
+  made = subst (λ b. IsMade plain_plan (codes "a.log") (record { lo = 0; hi = 4 }) b
+      (codes "out/0/a.log@00000000000000000000-00000000000000000004.txt") (codes "x\ny\n"))
+      (sym (bytes_are two_lines refl)) made_file;
   called = refl;
 }
 
-published_once : (name content : List ℕ) → IsPublished (codes "j1") plain_plan two_lines (done_units job two_lines [] None) name content → (name ≡ the_file) × (content ≡ codes "x\ny\n")
+published_once : (name content : List ℕ) → IsPublished (codes "j1") plain_plan two_lines
+    (done_units job two_lines [] None) name content → (name ≡ the_file) × (content ≡ codes "x\ny\n")
 unfolding the_unit
 published_once name content u =
     let one : the_unit ≡ u.unit = only (subst (λ js. Contains js u.unit) units_done u.of_units) in
-    let made : IsMade plain_plan (codes "a.log") (record { lo = 0; hi = 4 }) (bytes_in two_lines (codes "a.log") (record { lo = 0; hi = 4 })) u.path content =
-    subst (λ (j : Judged). IsMade plain_plan j.0.part (span_of j.0) (bytes_in two_lines j.0.part (span_of j.0)) u.path content) (sym one) u.made in
+    let made : IsMade plain_plan (codes "a.log") (record { lo = 0; hi = 4 })
+    (bytes_in two_lines (codes "a.log") (record { lo = 0; hi = 4 })) u.path content =
+    subst (λ (j : Judged). IsMade plain_plan j.0.part (span_of j.0) (bytes_in two_lines j.0.part (span_of j.0)) u.path
+    content) (sym one) u.made in
     let read : IsMade plain_plan (codes "a.log") (record { lo = 0; hi = 4 }) (codes "x\ny\n") u.path content =
-    subst (λ b. IsMade plain_plan (codes "a.log") (record { lo = 0; hi = 4 }) b u.path content) (bytes_are two_lines refl) made in
+    subst (λ b. IsMade plain_plan (codes "a.log") (record { lo = 0; hi = 4 }) b u.path content)
+    (bytes_are two_lines refl) made in
     let is = only_made read.target content read.sends read.some in
     (u.called ∙ named_file read.target u.path is.0 read.called, is.1)
   where
@@ -340,15 +426,20 @@ published_once name content u =
     only (zero, below, is) = is
     only (suc k, below, is) = absurd (omega (arith, below))
 
-others_as_before : (name : List ℕ) → is_published (codes "j1") name ≡ false → keeps_state (codes "j1") name ≡ false → after_plain name ≡ None
+others_as_before : (name : List ℕ) → is_published (codes "j1") name ≡ false → keeps_state (codes "j1") name ≡ false
+    → after_plain name ≡ None
 others_as_before name private state = cases (bytes_eq name the_file) refl
   where
-    other : (b : Bool) → bytes_eq name (codes "j1/state") ≡ b → cond b (Some (clean (state_spelling version_2 plain_state))) None ≡ None
-    other true is = absurd (let bad : true ≡ false = sym (ap (keeps_state (codes "j1")) (same_name name (codes "j1/state") is)) ∙ state in cc)
+    other : (b : Bool) → bytes_eq name (codes "j1/state") ≡ b
+        → cond b (Some (clean (state_spelling version_2 plain_state))) None ≡ None
+    other true is = absurd (let bad : true ≡ false = sym (ap (keeps_state (codes "j1"))
+        (same_name name (codes "j1/state") is)) ∙ state in cc)
     other false is = refl
 
-    cases : (b : Bool) → bytes_eq name the_file ≡ b → cond b (Some (clean (codes "x\ny\n"))) (put no_files (codes "j1/state") (Some (clean (state_spelling version_2 plain_state))) name) ≡ None
-    cases true is = absurd (let bad : true ≡ false = sym (ap (is_published (codes "j1")) (same_name name the_file is)) ∙ private in cc)
+    cases : (b : Bool) → bytes_eq name the_file ≡ b → cond b (Some (clean (codes "x\ny\n")))
+        (put no_files (codes "j1/state") (Some (clean (state_spelling version_2 plain_state))) name) ≡ None
+    cases true is = absurd (let bad : true ≡ false = sym (ap (is_published (codes "j1")) (same_name name the_file is))
+        ∙ private in cc)
     cases false is = other (bytes_eq name (codes "j1/state")) refl
 
 run_left : RunLeft job two_lines no_files None [] after_plain
@@ -358,9 +449,12 @@ run_left = record {
     λ e.
         let f = file_of (after_plain name) content e in
         let is = published_is name f.0 p f.1 in
-        inl (subst (λ c. IsPublished (codes "j1") plain_plan two_lines (done_units job two_lines [] None) name c) (ap contents_of is.1 ∙ f.2)
-        (subst (λ n. IsPublished (codes "j1") plain_plan two_lines (done_units job two_lines [] None) n (codes "x\ny\n")) (sym is.0) publishes_file)),
-    λ e. ⊎_elim (λ u. let is = published_once name content u in ap (contents_at after_plain) is.0 ∙ ap (λ c. Some c) (sym is.1)) (λ x. absurd (let bad : None ≡ Some content = x.0 in cc)) e,
+        inl (subst (λ c. IsPublished (codes "j1") plain_plan two_lines (done_units job two_lines [] None) name c)
+        (ap contents_of is.1 ∙ f.2)
+        (subst (λ n. IsPublished (codes "j1") plain_plan two_lines (done_units job two_lines [] None) n
+        (codes "x\ny\n")) (sym is.0) publishes_file)),
+    λ e. ⊎_elim (λ u. let is = published_once name content u in ap (contents_at after_plain) is.0
+        ∙ ap (λ c. Some c) (sym is.1)) (λ x. absurd (let bad : None ≡ Some content = x.0 in cc)) e,
   );
   others = others_as_before;
 }
@@ -370,7 +464,8 @@ none_stored : (archive : Held) (s : State) → AllRecoverTo (codes "j1") archive
 unfolding AllRecoverTo Image without_staging
 none_stored archive s all =
     let x = all no_files (λ name. tt) in
-    let is : x.0 ≡ no_files = to_one (codes "j1") no_files x.0 no_files x.1 (inl (refl, λ i name. kept_all no_files (codes "j1") name (λ e. refl) i)) in
+    let is : x.0 ≡ no_files = to_one (codes "j1") no_files x.0 no_files x.1
+    (inl (refl, λ i name. kept_all no_files (codes "j1") name (λ e. refl) i)) in
     none (subst (λ m. Stores (codes "j1") m (Some s)) is x.2)
   where
     none : Stores (codes "j1") no_files (Some s) → ⊥
@@ -379,13 +474,14 @@ none_stored archive s all =
 
 trail_is : TrailOfRun job two_lines [] no_files (after_plain ∷ [])
 unfolding Rises
-trail_is archive None agrees stands = subst (λ os. Rises (AllRecoverTo (codes "j1") archive) os (after_plain ∷ [])) (sym states_are) (
-  [],
-  after_plain ∷ [],
-  refl,
-  tt,
-  (after_plain ∷ [], [], refl, (run archive (agrees (codes "a.log") (codes "x\ny\n") refl), tt), refl),
-)
+trail_is archive None agrees stands = subst (λ os. Rises (AllRecoverTo (codes "j1") archive) os (after_plain ∷ []))
+    (sym states_are) (
+      [],
+      after_plain ∷ [],
+      refl,
+      tt,
+      (after_plain ∷ [], [], refl, (run archive (agrees (codes "a.log") (codes "x\ny\n") refl), tt), refl),
+    )
 trail_is archive (Some s) agrees stands = absurd (none_stored archive s stands)
 
 pub example : PlainHistory
@@ -395,6 +491,13 @@ example = record {
   tells = tells_plan;
   left = run_left;
   trail = trail_is;
-  history = goes_on two_lines two_lines no_files after_plain [] (begins two_lines no_files (λ name e. refl)) (λ part bytes e. ([], e ∙ ap (λ b. Some b) (sym (append-nil bytes))))
-      (record { added = after_plain ∷ []; round = running job refl tells_plan two_lines (λ part bytes e. e) [] trail_is; left = after_plain; how = inr refl; same = λ name e. refl });
+  history = goes_on two_lines two_lines no_files after_plain [] (begins two_lines no_files (λ name e. refl))
+      (λ part bytes e. ([], e ∙ ap (λ b. Some b) (sym (append-nil bytes))))
+      (record {
+        added = after_plain ∷ [];
+        round = running job refl tells_plan two_lines (λ part bytes e. e) [] trail_is;
+        left = after_plain;
+        how = inr refl;
+        same = λ name e. refl;
+      });
 }

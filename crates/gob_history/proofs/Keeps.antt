@@ -1,5 +1,6 @@
 -- What a group's commit leaves of the files that tell the state, and all in all.
-use Rattle.std.proofs.Common.{◌≡◌, ◌≢◌, ◌⊎◌, inl, inr, ⊎_elim, ℕ, Bool, true, false, cond, List, [], ◌∷◌, ◌++◌, map, length, refl, sym, ap, subst, ◌∙◌, Some, None, option_map}
+use Rattle.std.proofs.Common.{◌≡◌, ◌≢◌, ◌⊎◌, inl, inr, ⊎_elim, ℕ, Bool, true, false, cond, List, [], ◌∷◌, ◌++◌, map}
+use Rattle.std.proofs.Common.{length, refl, sym, ap, subst, ◌∙◌, Some, None, option_map}
 use Rattle.std.specs.declared.option.Option.{Option}
 use Rattle.std.specs.List.{Contains}
 use Rattle.gob_bytes.specs.Paths.{begins_with, delta_folder, delta_name, keeps_state}
@@ -9,7 +10,8 @@ use Rattle.gob_meaning.specs.Job.{Job}
 use Rattle.gob_ledger.specs.State.{State}
 use Rattle.gob_ledger.specs.Next.{Judged}
 use Rattle.gob_ledger.specs.Spelling.{version_number, Proper}
-use Rattle.gob_ledger.specs.Delta.{Change, Kept, KeepsAs, ProperKept, StateFollows, change_of, earlier_changes, kept_next, last_run, small_change, state_of, wants_whole, whole_change}
+use Rattle.gob_ledger.specs.Delta.{Change, Kept, KeepsAs, ProperKept, StateFollows, change_of, earlier_changes}
+use Rattle.gob_ledger.specs.Delta.{kept_next, last_run, small_change, state_of, wants_whole, whole_change}
 use Rattle.gob_ledger.proofs.Changed.{change_keeps}
 use Rattle.gob_ledger.proofs.DeltaNames.{change_below}
 use Rattle.gob_ledger.proofs.Keeping.{kept_proper, changes_numbered}

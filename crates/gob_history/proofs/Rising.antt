@@ -24,7 +24,8 @@ rises_stand job archive (o ∷ os) (m ∷ ms) maps all r = (
 )
 
 -- no map stands for the further states
-pub rises_more : {X : Type 0} (P : X → Files → Type 0) (xs ys : List X) (ms : List Files) → Rises P xs ms → Rises P (xs ++ ys) ms
+pub rises_more : {X : Type 0} (P : X → Files → Type 0) (xs ys : List X) (ms : List Files) → Rises P xs ms
+    → Rises P (xs ++ ys) ms
 unfolding Rises
 rises_more P [] [] ms r = r
 rises_more P [] (y ∷ ys) ms r = ([], ms, refl, tt, rises_more P [] ys ms r)
@@ -35,7 +36,8 @@ append_nil_each P [] ns a b = b
 append_nil_each P (m ∷ ms) ns a b = (a.0, append_nil_each P ms ns a.1 b)
 
 -- maps that rise up to a member, and then others that rise from it, rise along both
-pub rises_on : {X : Type 0} (P : X → Files → Type 0) (xs : List X) (x : X) (ys : List X) (ms ns : List Files) → Rises P (xs ++ x ∷ []) ms → Rises P (x ∷ ys) ns → Rises P (xs ++ x ∷ ys) (ms ++ ns)
+pub rises_on : {X : Type 0} (P : X → Files → Type 0) (xs : List X) (x : X) (ys : List X) (ms ns : List Files)
+    → Rises P (xs ++ x ∷ []) ms → Rises P (x ∷ ys) ns → Rises P (xs ++ x ∷ ys) (ms ++ ns)
 unfolding Rises
 rises_on P [] x ys ms ns a b = (
   r ++ b.0,
@@ -54,4 +56,10 @@ rises_on P [] x ys ms ns a b = (
         nothing_more : (zs : List Files) → zs ++ [] ≡ zs
         nothing_more [] = refl
         nothing_more (z ∷ zs) = ap (λ t. z ∷ t) (nothing_more zs)
-rises_on P (z ∷ xs) x ys ms ns a b = (a.0, a.1 ++ ns, ap (λ t. t ++ ns) a.2 ∙ append_assoc a.0 a.1 ns, a.3, rises_on P xs x ys a.1 ns a.4 b)
+rises_on P (z ∷ xs) x ys ms ns a b = (
+  a.0,
+  a.1 ++ ns,
+  ap (λ t. t ++ ns) a.2 ∙ append_assoc a.0 a.1 ns,
+  a.3,
+  rises_on P xs x ys a.1 ns a.4 b,
+)

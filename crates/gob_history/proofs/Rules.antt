@@ -1,5 +1,6 @@
 -- What units make doesn't depend on what a pipeline text leaves out.
-use Rattle.std.proofs.Common.{◌≡◌, ℕ, ◌≤◌, ◌^◌, Bool, true, false, cond, List, length, refl, sym, ap, subst, ◌∙◌, Some, None, arith}
+use Rattle.std.proofs.Common.{◌≡◌, ℕ, ◌≤◌, ◌^◌, Bool, true, false, cond, List, length, refl, sym, ap, subst, ◌∙◌, Some}
+use Rattle.std.proofs.Common.{None, arith}
 use Rattle.std.specs.Prelude.{nat_le}
 use Rattle.std.proofs.lemmas.Bool.{and_parts, leb-true}
 use Rattle.gob_plan.specs.declared.plan.Plan.{Plan}
@@ -12,7 +13,8 @@ use Rattle.gob_jobs.specs.Plans.{plan_of}
 use Rattle.gob_jobs.proofs.Tells.{plans_right}
 use Rattle.gob_meaning.specs.Plans.{without_rules}
 
-pub same_fold : (plan : Plan) (lo : ℕ) (bytes : List ℕ) → unit_fold (without_rules plan) lo bytes ≡ unit_fold plan lo bytes
+pub same_fold : (plan : Plan) (lo : ℕ) (bytes : List ℕ) → unit_fold (without_rules plan) lo bytes ≡ unit_fold plan lo
+    bytes
 unfolding unit_fold line_made
 same_fold plan lo bytes = refl
 
@@ -20,13 +22,15 @@ pub same_counts : (plan : Plan) (fold : List Folded) → counts_of (without_rule
 unfolding counts_of
 same_counts plan fold = refl
 
-same_called : (plan : Plan) (part : List ℕ) (lo hi : ℕ) (t : Target) → target_name (without_rules plan) part lo hi t ≡ target_name plan part lo hi t
+same_called : (plan : Plan) (part : List ℕ) (lo hi : ℕ) (t : Target)
+    → target_name (without_rules plan) part lo hi t ≡ target_name plan part lo hi t
 unfolding target_name
 same_called plan part lo hi (out b place) = refl
 same_called plan part lo hi (err b place) = refl
 same_called plan part lo hi bad = refl
 
-pub made_with : (plan : Plan) (part : List ℕ) (s : Span) (bytes path content : List ℕ) → IsMade plan part s bytes path content → IsMade (without_rules plan) part s bytes path content
+pub made_with : (plan : Plan) (part : List ℕ) (s : Span) (bytes path content : List ℕ)
+    → IsMade plan part s bytes path content → IsMade (without_rules plan) part s bytes path content
 made_with plan part s bytes path content m = record {
   target = m.target;
   sends = ap (λ f. sent_to m.target (deliveries_of f)) (same_fold plan s.lo bytes) ∙ m.sends;
@@ -34,7 +38,8 @@ made_with plan part s bytes path content m = record {
   called = same_called plan part s.lo s.hi m.target ∙ m.called;
 }
 
-pub made_without : (plan : Plan) (part : List ℕ) (s : Span) (bytes path content : List ℕ) → IsMade (without_rules plan) part s bytes path content → IsMade plan part s bytes path content
+pub made_without : (plan : Plan) (part : List ℕ) (s : Span) (bytes path content : List ℕ)
+    → IsMade (without_rules plan) part s bytes path content → IsMade plan part s bytes path content
 made_without plan part s bytes path content m = record {
   target = m.target;
   sends = ap (λ f. sent_to m.target (deliveries_of f)) (sym (same_fold plan s.lo bytes)) ∙ m.sends;

@@ -22,7 +22,8 @@ HasTwoLines archive = at_name archive (codes "a.log") ≡ Some (codes "x\ny\n")
 
 pub record PlainHistory : Type 0 where
   pub nothing_stands : (archive : Held) → AllRecoverTo (codes "j1") archive None no_files
-  pub run_stands : (archive : Held) → HasTwoLines archive → AllRecoverTo (codes "j1") archive (Some plain_state) after_plain
+  pub run_stands : (archive : Held) → HasTwoLines archive → AllRecoverTo (codes "j1") archive (Some plain_state)
+      after_plain
   pub tells : TellsPlan job
   pub left : RunLeft job two_lines no_files None [] after_plain
   pub trail : TrailOfRun job two_lines [] no_files (after_plain ∷ [])

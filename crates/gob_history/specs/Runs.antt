@@ -57,7 +57,8 @@ group_verdicts group = map (λ j. j.1) group
 
 -- the state that a group makes of this one
 abbrev pub next_of_group : Job → Option State → List Judged → State
-next_of_group job o group = next_state (state_or_empty job o) job.pipeline (group_units group) (group_verdicts group) job.policy
+next_of_group job o group = next_state (state_or_empty job o) job.pipeline (group_units group) (group_verdicts group)
+    job.policy
 
 -- the state after a group: the next one, or what was stored where no unit of it is committed
 abbrev pub after_group : Job → Option State → List Judged → Option State
@@ -83,16 +84,21 @@ states_of_run job held failing o = chain_from job o (run_groups job held failing
 
 -- what a map publishes, over another: what these units make is put in
 abbrev pub PutsIn : Job → Held → List Judged → Files → Files → Type 0
-PutsIn job held done settled n = (name content : List ℕ) → is_published job.name name ≡ true → (contents_at n name ≡ Some content)
+PutsIn job held done settled n = (name content : List ℕ) → is_published job.name name ≡ true
+    → (contents_at n name ≡ Some content)
     ↔ (IsPublished job.name job.plan held done name content
-    ⊎ ((contents_at settled name ≡ Some content) × ((other : List ℕ) → IsPublished job.name job.plan held done name other → ⊥)))
+    ⊎ ((contents_at settled name ≡ Some content) × ((other : List ℕ)
+    → IsPublished job.name job.plan held done name other → ⊥)))
 
 -- all other files stay, but for those that tell the state
 abbrev pub OthersStay : List ℕ → Files → Files → Type 0
-OthersStay job settled n = (name : List ℕ) → is_published job name ≡ false → keeps_state job name ≡ false → n name ≡ settled name
+OthersStay job settled n = (name : List ℕ) → is_published job name ≡ false → keeps_state job name ≡ false
+    → n name ≡ settled name
 
--- the map that the commit of these groups left, over the settled one: what their committed units make is put in, and nothing else but the state has changed
-pub record GroupsLeft (job : Job) (held : Held) (settled : Files) (o : Option State) (groups : List (List Judged)) (n : Files) : Type 0 where
+-- the map that the commit of these groups left, over the settled one: what their committed units make is put in, and
+-- nothing else but the state has changed
+pub record GroupsLeft (job : Job) (held : Held) (settled : Files) (o : Option State) (groups : List (List Judged))
+    (n : Files) : Type 0 where
   pub stored : Stores job.name n (after_groups job o groups)
   pub published : PutsIn job held (flat_map (done_in job) groups) settled n
   pub others : OthersStay job.name settled n
@@ -107,33 +113,41 @@ kept_where k next (d ∷ ds) = Some next
 
 -- what is kept after a group: one commit more, where a unit of it is committed
 abbrev pub kept_after_group : Job → Option Kept → List Judged → Option Kept
-kept_after_group job k group = kept_where k (kept_next k (next_of_group job (option_map state_of k) group)) (done_in job group)
+kept_after_group job k group = kept_where k (kept_next k (next_of_group job (option_map state_of k) group))
+    (done_in job group)
 
 abbrev pub kept_after : Job → Option Kept → List (List Judged) → Option Kept
 kept_after job k [] = k
 kept_after job k (g ∷ gs) = kept_after job (kept_after_group job k g) gs
 
--- the files that tell the state came from those that were there by one change for each group of which something is committed
+-- the files that tell the state came from those that were there by one change for each group of which something is
+-- committed
 abbrev pub StoredChange : Job → List (List Judged) → Files → Files → Type 0
-StoredChange job groups settled n = (k : Option Kept) → KeepsAs job.name settled k → KeepsAs job.name n (kept_after job k groups)
+StoredChange job groups settled n = (k : Option Kept) → KeepsAs job.name settled k
+    → KeepsAs job.name n (kept_after job k groups)
 
 -- what a run that was answered did: its units, their verdicts, and the map that it left
-pub record Ran (job : Job) (held : Held) (settled : Files) (o : Option State) (failing : List ℕ) (units : List WorkUnit) (verdicts : List Verdict) (n : Files) : Type 0 where
+pub record Ran (job : Job) (held : Held) (settled : Files) (o : Option State) (failing : List ℕ) (units : List WorkUnit)
+    (verdicts : List Verdict) (n : Files) : Type 0 where
   pub cut : units ≡ run_units job held o
   pub judged : verdicts ≡ verdicts_of job held units failing
   pub left : RunLeft job held settled o failing n
   pub change : StoredChange job (run_groups job held failing o) settled n
 
--- the maps that a run adds, whatever it answers: from a map that stands for a state they go along the states of the run, and never back
+-- the maps that a run adds, whatever it answers: from a map that stands for a state they go along the states of the
+-- run, and never back
 abbrev pub TrailOfRun : Job → Held → List ℕ → Files → List Files → Type 0
-TrailOfRun job held failing m added = (archive : Held) (o : Option State) → Agrees archive held → AllRecoverTo job.name archive o m
+TrailOfRun job held failing m added = (archive : Held) (o : Option State) → Agrees archive held
+    → AllRecoverTo job.name archive o m
     → Rises (AllRecoverTo job.name archive) (states_of_run job held failing o) added
 
 -- the maps of a call that only settles
 abbrev pub TrailOfSettling : List ℕ → Files → List Files → Type 0
-TrailOfSettling job m added = (archive : Held) (o : Option State) → AllRecoverTo job archive o m → Rises (AllRecoverTo job archive) (o ∷ []) added
+TrailOfSettling job m added = (archive : Held) (o : Option State) → AllRecoverTo job archive o m
+    → Rises (AllRecoverTo job archive) (o ∷ []) added
 
--- what a reader who doesn't wait for recovery may meet: each published file is clean and expected of the state, where there is one
+-- what a reader who doesn't wait for recovery may meet: each published file is clean and expected of the state, where
+-- there is one
 abbrev pub Readable : List ℕ → Held → Option State → Files → Type 0
 Readable job archive o m = (name : List ℕ) (f : File) → is_published job name ≡ true → m name ≡ Some f
     → (bytes : List ℕ) × (f ≡ clean bytes) × (s : State) × (o ≡ Some s) × IsExpected job s archive name bytes

@@ -21,7 +21,8 @@ Stores job m o = (k : Option Kept) × KeepsAs job m k × (option_map state_of k 
 
 -- the published files of a map are exactly those that the state expects
 abbrev pub PublishesExactly : List ℕ → Held → State → Files → Type 0
-PublishesExactly job archive s m = (name content : List ℕ) → is_published job name ≡ true → (contents_at m name ≡ Some content) ↔ IsExpected job s archive name content
+PublishesExactly job archive s m = (name content : List ℕ) → is_published job name ≡ true
+    → (contents_at m name ≡ Some content) ↔ IsExpected job s archive name content
 
 -- a state that is true of the archive and of the published files
 pub record Sound (job : List ℕ) (archive : Held) (s : State) (m : Files) : Type 0 where
@@ -38,7 +39,8 @@ SoundIn job archive (Some s) m = Sound job archive s m
 
 -- an image that settles to this state, or to none, and is sound then
 abbrev pub RecoversTo : List ℕ → Held → Option State → Files → Type 0
-RecoversTo job archive o image = (settled : Files) × Settles job image settled × Stores job settled o × SoundIn job archive o settled
+RecoversTo job archive o image = (settled : Files) × Settles job image settled × Stores job settled o
+    × SoundIn job archive o settled
 
 -- so does every image of the map
 unfoldable pub AllRecoverTo : List ℕ → Held → Option State → Files → Type 0
@@ -46,8 +48,10 @@ AllRecoverTo job archive o m = EveryImage (RecoversTo job archive o) m
 
 -- the files of the state and the published ones of a map can't be lost in part
 pub record CountsClean (job : List ℕ) (m : Files) : Type 0 where
-  pub state : (name : List ℕ) (f : File) → keeps_state job name ≡ true → m name ≡ Some f → (bytes : List ℕ) × (f ≡ clean bytes)
-  pub published : (name : List ℕ) (f : File) → is_published job name ≡ true → m name ≡ Some f → (bytes : List ℕ) × (f ≡ clean bytes)
+  pub state : (name : List ℕ) (f : File) → keeps_state job name ≡ true → m name ≡ Some f → (bytes : List ℕ)
+      × (f ≡ clean bytes)
+  pub published : (name : List ℕ) (f : File) → is_published job name ≡ true → m name ≡ Some f → (bytes : List ℕ)
+      × (f ≡ clean bytes)
 
 -- a settled map that no crash changes where it counts: its state and its published files are clean and right
 pub record IsDurable (job : List ℕ) (archive : Held) (o : Option State) (m : Files) : Type 0 where
@@ -57,11 +61,13 @@ pub record IsDurable (job : List ℕ) (archive : Held) (o : Option State) (m : F
 
 -- what settles to a steady map stands for its state
 abbrev pub DurableRecovers : Type 0
-DurableRecovers = (job : List ℕ) (archive : Held) (o : Option State) (settled m : Files) → IsDurable job archive o settled → SettlesAs job settled m → AllRecoverTo job archive o m
+DurableRecovers = (job : List ℕ) (archive : Held) (o : Option State) (settled m : Files)
+    → IsDurable job archive o settled → SettlesAs job settled m → AllRecoverTo job archive o m
 
 -- what stands for a state settles to a steady map
 abbrev pub RecoveringIsDurable : Type 0
-RecoveringIsDurable = (job : List ℕ) (archive : Held) (o : Option State) (settled m : Files) → AllRecoverTo job archive o m → Settles job m settled → IsDurable job archive o settled × SettlesAs job settled m
+RecoveringIsDurable = (job : List ℕ) (archive : Held) (o : Option State) (settled m : Files)
+    → AllRecoverTo job archive o m → Settles job m settled → IsDurable job archive o settled × SettlesAs job settled m
 
 -- a map recovers to one state, whatever archive is at hand
 abbrev pub RecoversToOne : Type 0

@@ -1,8 +1,10 @@
-//! What maps of files stand for over lists of runs, wherever each run is stopped: definitions and their laws. No function works here.
+//! What maps of files stand for over lists of runs, wherever each run is stopped: definitions and their laws. No
+//! function works here.
 #![tactic(auto)]
 
 ghost use Rattle.gob_history.specs.Examples.{PlainHistory};
-ghost use Rattle.gob_history.specs.Laws.{CommittingAGroup, GroupsLeaveOneMore, GroupsStayDurable, HistoryRecovers, RisingMapsRecover, RunGoesAlong, RunLeavesSound};
+ghost use Rattle.gob_history.specs.Laws.{CommittingAGroup, GroupsLeaveOneMore, GroupsStayDurable, HistoryRecovers};
+ghost use Rattle.gob_history.specs.Laws.{RisingMapsRecover, RunGoesAlong, RunLeavesSound};
 ghost use Rattle.gob_history.specs.Sound.{RecoveringIsDurable, RecoversToOne, DurableRecovers};
 
 /// Whatever settles to a steady map stands for that map's state, whatever a crash leaves of it.
@@ -30,7 +32,8 @@ pub fn groups_stay_durable()
     ensures { GroupsStayDurable }
 {}
 
-/// Over runs of any number, each stopped anywhere: every map stands for a state, and what is done stays done with the same files.
+/// Over runs of any number, each stopped anywhere: every map stands for a state, and what is done stays done with the
+/// same files.
 pub fn history_law()
     ensures { HistoryRecovers }
 {}

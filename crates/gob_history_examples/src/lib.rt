@@ -9,8 +9,8 @@ pub fn an_unsynced_state_stands_for_nothing()
     ensures { UnsyncedStandsForNothing }
 {}
 
-/// Two runs over a partition whose second line is half there at first: the second run is stopped between the moves of its
-/// commit, and a call that settles comes after it. Each map stands for its state.
+/// Two runs over a partition whose second line is half there at first: the second run is stopped between the moves of
+/// its commit, and a call that settles comes after it. Each map stands for its state.
 pub fn two_runs_over_a_half_line()
     ensures { HalfLineHistory }
 {}

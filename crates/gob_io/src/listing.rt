@@ -23,7 +23,8 @@ pub fn is_listed(parts: &[Part]) -> bool
 }
 
 fn may_precede(first: &Part, rest: &[Part]) -> bool
-    ensures { (IsTrue result × IsListed (map entry_of rest.now)) ↔ IsListed (entry_of first.now ∷ map entry_of rest.now) }
+    ensures { (IsTrue result × IsListed (map entry_of rest.now)) ↔ IsListed
+        (entry_of first.now ∷ map entry_of rest.now) }
 {
     is_entry(first) && is_below(first, rest)
 }

@@ -10,7 +10,8 @@ use gob_memory::{Counts, Planned};
 use gob_plan::{Bytes, Failed, NoMemory};
 use std::alloc::Global;
 
-/// Keeps what is written to it. It fails the writes with the given numbers, counted from 0, and those that find no room.
+/// Keeps what is written to it. It fails the writes with the given numbers, counted from 0, and those that find no
+/// room.
 #[derive(Drop)]
 pub struct MemSink {
     bytes: Bytes,
@@ -68,7 +69,8 @@ impl Sink for MemSink {
         ensures ok { OnOk result (output_of self.new ≡ with_write bytes.now (output_of self.old)) }
         ensures err { OnErr result (output_of self.new ≡ with_write [] (output_of self.old)) }
         ensures cause { CountsFailure (sink_counts self.old).faults (sink_counts self.new).faults (IsErr result) }
-        ensures planned { FailsAsPlanned (IsDue (sink_plan self.old)) (sink_counts self.old) (sink_counts self.new) (IsErr result) }
+        ensures planned { FailsAsPlanned (IsDue (sink_plan self.old)) (sink_counts self.old) (sink_counts self.new)
+            (IsErr result) }
         ensures call { CountsCall (sink_plan self.old) (sink_plan self.new) }
     {
         if self.planned.fails_next() {

@@ -53,7 +53,8 @@ impl MemSource {
         fail_pulls: Vec<u64>,
     ) -> Self
         requires { All (λ p. p.0 ≢ []) parts.items }
-        ensures tells { ⟦<MemSource as Source>⟧.supply result ≡ Some (record { held = table_of parts.items; pulls = [] }) }
+        ensures tells { ⟦<MemSource as Source>⟧.supply result
+            ≡ Some (record { held = table_of parts.items; pulls = [] }) }
         ensures counts { source_counts result ≡ record { faults = 0; shorts = 0 } }
         ensures plan_faults { ⟦<MemSource as Source>⟧.plan_faults result ≡ 0 }
         ensures lists { (numbers_of (list_plan result) ≡ fail_lists.items) × (calls_of (list_plan result) ≡ 0) }
@@ -178,7 +179,8 @@ impl MemSource {
 
     // Adds an entry to the list of pulls.
     fn note(&mut self, part: &str, at: u64, len: usize) -> Result<(), NoMemory>
-        ensures ok { OnOk result (supply_of self.new ≡ with_pull (record { part = part.now; at = at; len = len }) (supply_of self.old)) }
+        ensures ok { OnOk result (supply_of self.new
+            ≡ with_pull (record { part = part.now; at = at; len = len }) (supply_of self.old)) }
         ensures err { OnErr result (supply_of self.new ≡ supply_of self.old) }
         ensures counts { source_counts self.new ≡ source_counts self.old }
         ensures plan_faults { plan_faults_of self.new ≡ plan_faults_of self.old }
@@ -214,9 +216,12 @@ impl Source for MemSource {
         ensures listed { IfOk result (λ parts. IsListed (map entry_of parts.items)) }
         ensures entries { IfOk result (λ parts. map entry_of parts.items ≡ listing_of (supply_of self.old).held) }
         ensures supply { supply_of self.new ≡ supply_of self.old }
-        ensures cause { CountsFailure (source_counts self.old).faults (source_counts self.new).faults (result ≡ Err ListFault.Failed) }
-        ensures planned { CountsFailure (plan_faults_of self.old) (plan_faults_of self.new) (result ≡ Err ListFault.Failed) }
-        ensures as_planned { FailsAsPlanned (IsDue (list_plan self.old)) (source_counts self.old) (source_counts self.new) (result ≡ Err ListFault.Failed) }
+        ensures cause { CountsFailure (source_counts self.old).faults (source_counts self.new).faults
+            (result ≡ Err ListFault.Failed) }
+        ensures planned { CountsFailure (plan_faults_of self.old) (plan_faults_of self.new)
+            (result ≡ Err ListFault.Failed) }
+        ensures as_planned { FailsAsPlanned (IsDue (list_plan self.old)) (source_counts self.old)
+            (source_counts self.new) (result ≡ Err ListFault.Failed) }
         ensures call { CountsCall (list_plan self.old) (list_plan self.new) }
         ensures one { CountsOne (plan_faults_of self.old) (plan_faults_of self.new) (result ≡ Err ListFault.Failed) }
         ensures short { (source_counts self.new).shorts ≡ (source_counts self.old).shorts }
@@ -242,7 +247,8 @@ impl Source for MemSource {
         ensures supply { supply_of self.new ≡ supply_of self.old }
         ensures cause { CountsFailure (source_counts self.old).faults (source_counts self.new).faults (IsErr result) }
         ensures planned { CountsFailure (plan_faults_of self.old) (plan_faults_of self.new) (IsErr result) }
-        ensures as_planned { FailsAsPlanned (IsDue (look_plan self.old)) (source_counts self.old) (source_counts self.new) (IsErr result) }
+        ensures as_planned { FailsAsPlanned (IsDue (look_plan self.old)) (source_counts self.old)
+            (source_counts self.new) (IsErr result) }
         ensures call { CountsCall (look_plan self.old) (look_plan self.new) }
         ensures one { CountsOne (plan_faults_of self.old) (plan_faults_of self.new) (IsErr result) }
         ensures short { (source_counts self.new).shorts ≡ (source_counts self.old).shorts }
@@ -261,13 +267,15 @@ impl Source for MemSource {
     fn pull(&mut self, part: &str, at: u64, into: &mut [u8]) -> Result<usize, Failed>
         requires { part.now ≢ [] }
         ensures within { IfOk result (λ n. n ≤ length into.old) }
-        ensures bytes { IfOk result (λ n. Fills into.new n (bytes_from (supply_of self.old).held part.now at (length into.old))) }
+        ensures bytes { IfOk result (λ n. Fills into.new n
+            (bytes_from (supply_of self.old).held part.now at (length into.old))) }
         ensures counted { let pull : Pull = record { part = part.now; at = at; len = length into.old } in
             OnOk result (supply_of self.new ≡ with_pull pull (supply_of self.old)) }
         ensures uncounted { OnErr result (supply_of self.new ≡ supply_of self.old) }
         ensures cause { CountsFailure (source_counts self.old).faults (source_counts self.new).faults (IsErr result) }
         ensures planned { plan_faults_of self.new ≡ plan_faults_of self.old }
-        ensures as_planned { FailsAsPlanned (IsDue (pull_plan self.old)) (source_counts self.old) (source_counts self.new) (IsErr result) }
+        ensures as_planned { FailsAsPlanned (IsDue (pull_plan self.old)) (source_counts self.old)
+            (source_counts self.new) (IsErr result) }
         ensures call { CountsCall (pull_plan self.old) (pull_plan self.new) }
         ensures others { (list_plan self.new ≡ list_plan self.old) × (look_plan self.new ≡ look_plan self.old) }
     {

@@ -18,6 +18,7 @@ pub trait Sink {
     /// Writes all of the bytes, or fails after some front of them. Either way it is one write.
     fn write(&mut self, bytes: &[u8]) -> Result<(), Failed>
         ensures ok { OnOk result (output self.new ≡ option_map (with_write bytes.now) (output self.old)) }
-        ensures err { OnErr result ((n : ℕ) × (output self.new ≡ option_map (with_write (take n bytes.now)) (output self.old))) }
+        ensures err { OnErr result ((n : ℕ) × (output self.new
+            ≡ option_map (with_write (take n bytes.now)) (output self.old))) }
         ensures cause { CountsFailure (faults self.old) (faults self.new) (IsErr result) };
 }

@@ -1,6 +1,7 @@
 //! A source of partitions, which are files that only grow.
 
-ghost use Rattle.std.specs.Prelude.{◌≡◌, ◌≢◌, ◌≤◌, ℕ, [], length, take, map, option_map, IfOk, IfSome, OnOk, OnErr, IsErr};
+ghost use Rattle.std.specs.Prelude.{◌≡◌, ◌≢◌, ◌≤◌, ℕ, [], length, take, map, option_map, IfOk, IfSome, OnOk, OnErr};
+ghost use Rattle.std.specs.Prelude.{IsErr};
 ghost use Rattle.std.specs.declared.option.Option.{Option};
 ghost use Rattle.gob_device.specs.Causes.{CountsFailure};
 ghost use Rattle.gob_device.specs.Supply.{Fills, IsListed, Pull, Supply};
@@ -42,7 +43,8 @@ pub trait Source {
     /// Every partition with its size, in byte order of names, each once. No name is empty, and no size passes 2^63 - 1.
     fn list(&mut self, alloc: Global) -> Result<Vec<Part>, ListFault>
         ensures listed { IfOk result (λ parts. IsListed (map entry_of parts.items)) }
-        ensures entries { IfOk result (λ parts. IfSome (supply self.old) (λ s. map entry_of parts.items ≡ listing_of s.held)) }
+        ensures entries { IfOk result (λ parts. IfSome (supply self.old)
+            (λ s. map entry_of parts.items ≡ listing_of s.held)) }
         ensures supply { supply self.new ≡ supply self.old }
         ensures cause { CountsFailure (faults self.old) (faults self.new) (result ≡ Err ListFault.Failed) }
         ensures planned { CountsFailure (plan_faults self.old) (plan_faults self.new) (result ≡ Err ListFault.Failed) };

@@ -1,6 +1,10 @@
 -- The tables of elements, computed.
 use Rattle.std.proofs.Common.{refl}
-use Rattle.gob_jobs.specs.TablesOfElements.{ElementTables, TrimmedTexts, ListElements, ElementWords, ValueWords, TestsByKind, TestValues, TestWords, TestFaultOrder, StepForms, StepsAfterSteps, StepsOfFullColumns, TaskRules, SourceColumns, ColumnsByFormat, BranchFormats, BranchPlaces, Schedules, LongestSchedule, LongestLists, NumbersWithin}
+use Rattle.gob_jobs.specs.TablesOfElements.{ElementTables, TrimmedTexts, ListElements, ElementWords, ValueWords}
+use Rattle.gob_jobs.specs.TablesOfElements.{TestsByKind, TestValues, TestWords, TestFaultOrder, StepForms}
+use Rattle.gob_jobs.specs.TablesOfElements.{StepsAfterSteps, StepsOfFullColumns, TaskRules, SourceColumns}
+use Rattle.gob_jobs.specs.TablesOfElements.{ColumnsByFormat, BranchFormats, BranchPlaces, Schedules, LongestSchedule}
+use Rattle.gob_jobs.specs.TablesOfElements.{LongestLists, NumbersWithin}
 use Rattle.gob_jobs.proofs.OnLiterals.{on_literals}
 
 trimmed_are : TrimmedTexts

@@ -12,7 +12,8 @@ use Rattle.gob_jobs.proofs.Rows.{with_draft}
 use Rattle.gob_jobs.proofs.Tells.{Spelled, fitting, spelled, job_told, is_pipeline, tells}
 use Rattle.gob_jobs.proofs.Ranges.{WithSkips, TasksFit, TurnsFit, rules_known}
 
-in_ranges : (name : List ℕ) (look : LookUp) (r : Reading) → WithSkips r.rules → TurnsFit r.rules → IsInRanges (job_read name look r)
+in_ranges : (name : List ℕ) (look : LookUp) (r : Reading) → WithSkips r.rules → TurnsFit r.rules
+    → IsInRanges (job_read name look r)
 in_ranges name look r first last = record {
   max_bytes = first.0;
   max_new_units = first.1;
@@ -24,7 +25,8 @@ in_ranges name look r first last = record {
   schedule = All-from_recursion (λ n. n ≤ 63) r.rules.turns.schedule last.4;
 }
 
-read_job : (name : List ℕ) (look : LookUp) (r : Reading) → read_table look first_rows branch_rows last_rows nothing_read ≡ Ok r → IsJob name (job_read name look r)
+read_job : (name : List ℕ) (look : LookUp) (r : Reading) → read_table look first_rows branch_rows last_rows nothing_read
+    ≡ Ok r → IsJob name (job_read name look r)
 read_job name look r is =
     let known = rules_known look r is in
     let told = job_told look r is in

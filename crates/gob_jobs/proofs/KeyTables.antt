@@ -1,6 +1,8 @@
 -- The tables of keys, computed.
 use Rattle.std.proofs.Common.{refl}
-use Rattle.gob_jobs.specs.TablesOfKeys.{KeyTables, PlainFile, FullFile, FirstFaults, MissingKeys, EmptyValues, NumberRanges, NoNumbers, Words, LongLists, ManyColumns, Policies, BranchKeys, Interpolations, UnknownKeys}
+use Rattle.gob_jobs.specs.TablesOfKeys.{KeyTables, PlainFile, FullFile, FirstFaults, MissingKeys, EmptyValues}
+use Rattle.gob_jobs.specs.TablesOfKeys.{NumberRanges, NoNumbers, Words, LongLists, ManyColumns, Policies, BranchKeys}
+use Rattle.gob_jobs.specs.TablesOfKeys.{Interpolations, UnknownKeys}
 use Rattle.gob_jobs.proofs.OnLiterals.{on_literals}
 
 plain_file_are : PlainFile

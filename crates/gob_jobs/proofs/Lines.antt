@@ -1,11 +1,14 @@
 -- A pipeline text reads as its settings, and no other text does.
-use Rattle.std.proofs.Common.{◌≡◌, ◌↔◌, ℕ, ◌<◌, Bool, true, false, cond, not, ◌&&◌, ◌||◌, nat_eq, List, [], ◌∷◌, ◌++◌, All, Option, Some, None, refl, sym, ap, subst, ◌∙◌, append_assoc, arith}
+use Rattle.std.proofs.Common.{◌≡◌, ◌↔◌, ℕ, ◌<◌, Bool, true, false, cond, not, ◌&&◌, ◌||◌, nat_eq, List, [], ◌∷◌, ◌++◌}
+use Rattle.std.proofs.Common.{All, Option, Some, None, refl, sym, ap, subst, ◌∙◌, append_assoc, arith}
 use Rattle.std.specs.List.{AllByRecursion, flat_map, list_all, join_with_byte}
 use Rattle.std.specs.Str.{bytes_eq}
-use Rattle.std.proofs.lemmas.Bool.{true≢false, cond_both, cond-true, cond-false, and_parts, and_from, not-true, eqb-true, eq-eqb, agree_below_at, leb-true}
+use Rattle.std.proofs.lemmas.Bool.{true≢false, cond_both, cond-true, cond-false, and_parts, and_from, not-true}
+use Rattle.std.proofs.lemmas.Bool.{eqb-true, eq-eqb, agree_below_at, leb-true}
 use Rattle.std.proofs.lemmas.Bool.Decides.{nat_tests}
 use Rattle.std.proofs.lemmas.List.Folds.{list_all-append}
-use Rattle.std.proofs.lemmas.List.Elements.{All-nil, All-cons, All-head, All-tail, All-append, All-weaker, All-from_recursion, recursion_from_All}
+use Rattle.std.proofs.lemmas.List.Elements.{All-nil, All-cons, All-head, All-tail, All-append, All-weaker}
+use Rattle.std.proofs.lemmas.List.Elements.{All-from_recursion, recursion_from_All}
 use Rattle.percent_encoding.specs.Percent.{percent_encode_byte, percent_decode}
 use Rattle.percent_encoding.proofs.PercentLemmas.{IsByte, IsEscapeByte, All-percent_encode_byte, All-percent_decode}
 use Rattle.gob_bytes.specs.Escapes.{is_letter, is_digit, is_plain, escaped, AreBytes}
@@ -13,7 +16,8 @@ use Rattle.gob_bytes.proofs.Forms as forms
 use Rattle.gob_bytes.proofs.Tables.{same_name, name_itself}
 use Rattle.gob_meaning.specs.Steps.{piece_byte}
 use Rattle.gob_jobs.specs.Words.{both, only_if, is_empty, pieces}
-use Rattle.gob_jobs.specs.Pipelines.{Setting, is_key, IsSetting, setting_line, pipeline_text, unescaped, setting_of_pieces, settings_of_lines, settings_in}
+use Rattle.gob_jobs.specs.Pipelines.{Setting, is_key, IsSetting, setting_line, pipeline_text, unescaped}
+use Rattle.gob_jobs.specs.Pipelines.{setting_of_pieces, settings_of_lines, settings_in}
 use Rattle.gob_jobs.specs.Laws.{SettingsAreRead}
 use Rattle.gob_jobs.proofs.Results.{some_both, only_some}
 
@@ -30,12 +34,14 @@ pieces_free p (b ∷ bs) free =
     let parts = and_parts (not (p b)) (list_all (λ c. not (p c)) bs) free in
     ap (λ v. piece_byte v b (pieces p bs)) (not-true (p b) parts.0) ∙ ap (piece_byte false b) (pieces_free p bs parts.1)
 
-pub pieces_at : (p : ℕ → Bool) (text : List ℕ) (c : ℕ) (after : List ℕ) → IsFree p text → p c ≡ true → pieces p (text ++ c ∷ after) ≡ text ∷ pieces p after
+pub pieces_at : (p : ℕ → Bool) (text : List ℕ) (c : ℕ) (after : List ℕ) → IsFree p text → p c ≡ true
+    → pieces p (text ++ c ∷ after) ≡ text ∷ pieces p after
 unfolding pieces
 pieces_at p [] c after free is = ap (λ v. piece_byte v c (pieces p after)) is
 pieces_at p (b ∷ bs) c after free is =
     let parts = and_parts (not (p b)) (list_all (λ c. not (p c)) bs) free in
-    ap (λ v. piece_byte v b (pieces p (bs ++ c ∷ after))) (not-true (p b) parts.0) ∙ ap (piece_byte false b) (pieces_at p bs c after parts.1 is)
+    ap (λ v. piece_byte v b (pieces p (bs ++ c ∷ after))) (not-true (p b) parts.0)
+    ∙ ap (piece_byte false b) (pieces_at p bs c after parts.1 is)
 
 -- a first piece and others
 abbrev pub HasFirst : List (List ℕ) → Type 0
@@ -51,9 +57,11 @@ unfolding pieces
 pieces_first p [] = ([], [], refl)
 pieces_first p (b ∷ bs) = byte_first (p b) b (pieces p bs)
 
-byte_joined : (c b : ℕ) (v : Bool) (ps : List (List ℕ)) (bs : List ℕ) → nat_eq c b ≡ v → HasFirst ps → join_with_byte c ps ≡ bs → join_with_byte c (piece_byte v b ps) ≡ b ∷ bs
+byte_joined : (c b : ℕ) (v : Bool) (ps : List (List ℕ)) (bs : List ℕ) → nat_eq c b ≡ v → HasFirst ps
+    → join_with_byte c ps ≡ bs → join_with_byte c (piece_byte v b ps) ≡ b ∷ bs
 byte_joined c b true [] bs is first joined = let no : [] ≡ first.0 ∷ first.1 = first.2 in cc
-byte_joined c b true (p ∷ ps) bs is first joined = let e : c ≡ b = eqb-true c b is in ap (λ x. c ∷ x) joined ∙ ap (λ d. d ∷ bs) e
+byte_joined c b true (p ∷ ps) bs is first joined = let e : c ≡ b = eqb-true c b is in ap (λ x. c ∷ x) joined
+    ∙ ap (λ d. d ∷ bs) e
 byte_joined c b false [] bs is first joined = let no : [] ≡ first.0 ∷ first.1 = first.2 in cc
 byte_joined c b false (p ∷ []) bs is first joined = ap (λ x. b ∷ x) joined
 byte_joined c b false (p ∷ q ∷ ps) bs is first joined = ap (λ x. b ∷ x) joined
@@ -61,7 +69,8 @@ byte_joined c b false (p ∷ q ∷ ps) bs is first joined = ap (λ x. b ∷ x) j
 pub pieces_joined : (c : ℕ) (text : List ℕ) → join_with_byte c (pieces (nat_eq c) text) ≡ text
 unfolding pieces
 pieces_joined c [] = refl
-pieces_joined c (b ∷ bs) = byte_joined c b (nat_eq c b) (pieces (nat_eq c) bs) bs refl (pieces_first (nat_eq c) bs) (pieces_joined c bs)
+pieces_joined c (b ∷ bs) = byte_joined c b (nat_eq c b) (pieces (nat_eq c) bs) bs refl (pieces_first (nat_eq c) bs)
+    (pieces_joined c bs)
 
 -- ---- bytes of keys and of escaped values
 
@@ -90,7 +99,8 @@ is_escaped_byte c = is_plain c || nat_eq c 37
 
 encoded_byte : (b : ℕ) → b < 256 → list_all is_escaped_byte (percent_encode_byte b) ≡ true
 unfolding percent_encode_byte
-encoded_byte b small = agree_below_at (λ c. list_all is_escaped_byte (percent_encode_byte c)) (λ c. true) 256 b refl small
+encoded_byte b small = agree_below_at (λ c. list_all is_escaped_byte (percent_encode_byte c)) (λ c. true) 256 b refl
+    small
 
 plain_byte : (b : ℕ) → is_plain b ≡ true → list_all is_escaped_byte (b ∷ []) ≡ true
 plain_byte b is = rw is
@@ -99,7 +109,8 @@ escaped_bytes : (value : List ℕ) → AreBytes value → list_all is_escaped_by
 unfolding escaped
 escaped_bytes [] small = refl
 escaped_bytes (b ∷ bs) small =
-    let one = cond_both (is_plain b) (b ∷ []) (percent_encode_byte b) (λ x. list_all is_escaped_byte x ≡ true) (plain_byte b) (λ _. encoded_byte b (All-head IsByte b bs small)) in
+    let one = cond_both (is_plain b) (b ∷ []) (percent_encode_byte b) (λ x. list_all is_escaped_byte x ≡ true)
+    (plain_byte b) (λ _. encoded_byte b (All-head IsByte b bs small)) in
     list_all-append is_escaped_byte (cond (is_plain b) (b ∷ []) (percent_encode_byte b)) (escaped bs)
     ∙ and_from _ _ one (escaped_bytes bs (All-tail IsByte b bs small))
 
@@ -128,25 +139,30 @@ line_body s = s.0 ++ 61 ∷ escaped s.1
 body_free : (s : Setting) → IsSetting s.0 s.1 → IsFree (nat_eq 10) (line_body s)
 body_free s is =
     let key : IsFree (nat_eq 10) s.0 = all_other is_key_byte 10 s.0 refl (key_bytes s.0 is.keyed) in
-    let value : IsFree (nat_eq 10) (61 ∷ escaped s.1) = all_other is_escaped_byte 10 (escaped s.1) refl (escaped_bytes s.1 is.bytes) in
+    let value : IsFree (nat_eq 10) (61 ∷ escaped s.1) = all_other is_escaped_byte 10 (escaped s.1) refl
+    (escaped_bytes s.1 is.bytes) in
     list_all-append (λ b. not (nat_eq 10 b)) s.0 (61 ∷ escaped s.1) ∙ and_from _ _ key value
 
 unescaped_again : (value : List ℕ) → AreBytes value → unescaped (escaped value) ≡ Some value
 unescaped_again value small =
     let e = forms.unescaped value small in
-    ap (λ v. cond (bytes_eq (escaped v) (escaped value)) (Some v) None) e ∙ ap (λ v. cond v (Some value) None) (name_itself (escaped value))
+    ap (λ v. cond (bytes_eq (escaped v) (escaped value)) (Some v) None) e
+    ∙ ap (λ v. cond v (Some value) None) (name_itself (escaped value))
 
 body_read : (s : Setting) → IsSetting s.0 s.1 → setting_of_pieces (pieces (nat_eq 61) (line_body s)) ≡ Some s
 body_read s is =
     let key : IsFree (nat_eq 61) s.0 = all_other is_key_byte 61 s.0 refl (key_bytes s.0 is.keyed) in
-    let value : IsFree (nat_eq 61) (escaped s.1) = all_other is_escaped_byte 61 (escaped s.1) refl (escaped_bytes s.1 is.bytes) in
+    let value : IsFree (nat_eq 61) (escaped s.1) = all_other is_escaped_byte 61 (escaped s.1) refl
+    (escaped_bytes s.1 is.bytes) in
     let two : pieces (nat_eq 61) (line_body s) ≡ s.0 ∷ escaped s.1 ∷ [] =
-    pieces_at (nat_eq 61) s.0 61 (escaped s.1) key refl ∙ ap (λ ps. s.0 ∷ ps) (pieces_free (nat_eq 61) (escaped s.1) value) in
+    pieces_at (nat_eq 61) s.0 61 (escaped s.1) key refl ∙ ap (λ ps. s.0 ∷ ps)
+    (pieces_free (nat_eq 61) (escaped s.1) value) in
     ap setting_of_pieces two
     ∙ (ap (λ o. both (λ k v. (k, v)) o (unescaped (escaped s.1))) (cond-true _ (Some s.0) None is.keyed)
     ∙ ap (λ o. both (λ k v. (k, v)) (Some s.0) o) (unescaped_again s.1 is.bytes))
 
-setting_from : (ps : List (List ℕ)) (s : Setting) → setting_of_pieces ps ≡ Some s → IsSetting s.0 s.1 × (ps ≡ s.0 ∷ escaped s.1 ∷ [])
+setting_from : (ps : List (List ℕ)) (s : Setting) → setting_of_pieces ps ≡ Some s → IsSetting s.0 s.1
+    × (ps ≡ s.0 ∷ escaped s.1 ∷ [])
 setting_from [] s is = cc
 setting_from (k ∷ []) s is = cc
 setting_from (k ∷ v ∷ []) s is =
@@ -161,7 +177,8 @@ setting_from (k ∷ v ∷ []) s is =
   where
     from_escaped : (text value : List ℕ) → unescaped text ≡ Some value → AreBytes value × (escaped value ≡ text)
     from_escaped text value =
-        cond_both (bytes_eq (escaped (percent_decode text)) text) (Some (percent_decode text)) None (λ o. o ≡ Some value → AreBytes value × (escaped value ≡ text))
+        cond_both (bytes_eq (escaped (percent_decode text)) text) (Some (percent_decode text)) None
+        (λ o. o ≡ Some value → AreBytes value × (escaped value ≡ text))
         (λ same there.
         let e : percent_decode text ≡ value = cc in
         let f : escaped (percent_decode text) ≡ text = same_name (escaped (percent_decode text)) text same in
@@ -173,41 +190,48 @@ setting_from (k ∷ v ∷ w ∷ ws) s is = cc
 -- ---- lines
 
 more_lines : (line : List ℕ) (rest : List (List ℕ)) → HasFirst rest
-    → settings_of_lines (line ∷ rest) ≡ both (λ s ss. s ∷ ss) (setting_of_pieces (pieces (nat_eq 61) line)) (settings_of_lines rest)
+    → settings_of_lines (line ∷ rest) ≡ both (λ s ss. s ∷ ss) (setting_of_pieces (pieces (nat_eq 61) line))
+    (settings_of_lines rest)
 more_lines line [] first = let no : [] ≡ first.0 ∷ first.1 = first.2 in cc
 more_lines line (x ∷ xs) first = refl
 
 line_and_more : (s : Setting) (rest : List ℕ) → setting_line s ++ rest ≡ line_body s ++ 10 ∷ rest
 line_and_more s rest = append_assoc (line_body s) (10 ∷ []) rest
 
-read_back : (settings : List Setting) → AllByRecursion (λ s. IsSetting s.0 s.1) settings → settings_of_lines (pieces (nat_eq 10) (pipeline_text settings)) ≡ Some settings
+read_back : (settings : List Setting) → AllByRecursion (λ s. IsSetting s.0 s.1) settings
+    → settings_of_lines (pieces (nat_eq 10) (pipeline_text settings)) ≡ Some settings
 unfolding pieces
 read_back [] all = refl
 read_back (s ∷ ss) all =
     let cut : pieces (nat_eq 10) (pipeline_text (s ∷ ss)) ≡ line_body s ∷ pieces (nat_eq 10) (pipeline_text ss) =
-    ap (pieces (nat_eq 10)) (line_and_more s (pipeline_text ss)) ∙ pieces_at (nat_eq 10) (line_body s) 10 (pipeline_text ss) (body_free s all.0) refl in
+    ap (pieces (nat_eq 10)) (line_and_more s (pipeline_text ss))
+    ∙ pieces_at (nat_eq 10) (line_body s) 10 (pipeline_text ss) (body_free s all.0) refl in
     ap settings_of_lines cut
     ∙ (more_lines (line_body s) (pieces (nat_eq 10) (pipeline_text ss)) (pieces_first (nat_eq 10) (pipeline_text ss))
     ∙ (ap (λ o. both (λ t ts. t ∷ ts) o (settings_of_lines (pieces (nat_eq 10) (pipeline_text ss)))) (body_read s all.0)
     ∙ ap (λ o. both (λ t ts. t ∷ ts) (Some s) o) (read_back ss all.1)))
 
-last_line : (line : List ℕ) (settings : List Setting) → settings_of_lines (line ∷ []) ≡ Some settings → (line ≡ []) × (settings ≡ [])
+last_line : (line : List ℕ) (settings : List Setting) → settings_of_lines (line ∷ []) ≡ Some settings → (line ≡ [])
+    × (settings ≡ [])
 last_line [] settings is = (refl, cc)
 last_line (b ∷ bs) settings is = cc
 
-read_from : (ls : List (List ℕ)) (settings : List Setting) → settings_of_lines ls ≡ Some settings → AllByRecursion (λ s. IsSetting s.0 s.1) settings × (join_with_byte 10 ls ≡ pipeline_text settings)
+read_from : (ls : List (List ℕ)) (settings : List Setting) → settings_of_lines ls ≡ Some settings
+    → AllByRecursion (λ s. IsSetting s.0 s.1) settings × (join_with_byte 10 ls ≡ pipeline_text settings)
 read_from [] settings is = cc
 read_from (line ∷ []) settings is =
     let p = last_line line settings is in
     (subst (AllByRecursion (λ s. IsSetting s.0 s.1)) (sym p.1) tt, p.0 ∙ ap pipeline_text (sym p.1))
 read_from (line ∷ next ∷ ls) settings is =
-    let p = some_both (λ s ss. s ∷ ss) (setting_of_pieces (pieces (nat_eq 61) line)) (settings_of_lines (next ∷ ls)) settings is in
+    let p = some_both (λ s ss. s ∷ ss) (setting_of_pieces (pieces (nat_eq 61) line)) (settings_of_lines (next ∷ ls))
+    settings is in
     let one = setting_from (pieces (nat_eq 61) line) p.0 p.2 in
     let more = read_from (next ∷ ls) p.1 p.3 in
     let body : line ≡ line_body p.0 = sym (pieces_joined 61 line) ∙ ap (join_with_byte 61) one.1 in (
       subst (AllByRecursion (λ s. IsSetting s.0 s.1)) p.4 (one.0, more.0),
       ap (λ x. x ++ 10 ∷ join_with_byte 10 (next ∷ ls)) body
-          ∙ (ap (λ x. line_body p.0 ++ 10 ∷ x) more.1 ∙ (sym (line_and_more p.0 (pipeline_text p.1)) ∙ ap pipeline_text p.4)),
+          ∙ (ap (λ x. line_body p.0 ++ 10 ∷ x) more.1 ∙ (sym (line_and_more p.0 (pipeline_text p.1))
+          ∙ ap pipeline_text p.4)),
     )
 
 pub settings_read : SettingsAreRead

@@ -1,6 +1,7 @@
 -- The tables of pipeline texts, computed.
 use Rattle.std.proofs.Common.{refl}
-use Rattle.gob_jobs.specs.TablesOfPlans.{PlanTables, PipelineLines, PlainText, FullText, PlansTold, PlansMissing, RefusedFiles, MalformedFile, HeaderFile, WebTier, WebTierUnknown, Scores}
+use Rattle.gob_jobs.specs.TablesOfPlans.{PlanTables, PipelineLines, PlainText, FullText, PlansTold, PlansMissing}
+use Rattle.gob_jobs.specs.TablesOfPlans.{RefusedFiles, MalformedFile, HeaderFile, WebTier, WebTierUnknown, Scores}
 use Rattle.gob_jobs.proofs.OnLiterals.{on_literals}
 
 lines_are : PipelineLines

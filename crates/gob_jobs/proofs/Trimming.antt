@@ -32,10 +32,11 @@ begins_end [] begins = tt
 begins_end (b ∷ bs) begins = begins_before b (without_end bs) begins
 
 end_before : (b : ℕ) (text : List ℕ) → without_end text ≡ text → without_end (before_text b text) ≡ before_text b text
-end_before b [] stays = elim (is_blank b) as (λ v. is_blank b ≡ v → without_end (cond v [] (b ∷ [])) ≡ cond v [] (b ∷ [])) [
-  | true ↦ λ e. refl
-  | false ↦ λ e. ap (λ v. cond v [] (b ∷ [])) e
-] refl
+end_before b [] stays = elim (is_blank b) as (λ v. is_blank b ≡ v
+    → without_end (cond v [] (b ∷ [])) ≡ cond v [] (b ∷ [])) [
+      | true ↦ λ e. refl
+      | false ↦ λ e. ap (λ v. cond v [] (b ∷ [])) e
+    ] refl
 end_before b (c ∷ cs) stays = ap (before_text b) stays
 
 end_twice : (text : List ℕ) → without_end (without_end text) ≡ without_end text

@@ -35,7 +35,8 @@ use Rattle.gob_plan.specs.Rows.{kind_of}
 use Rattle.gob_plan.specs.Tests.{check_takes, check_is_right}
 use Rattle.gob_meaning.specs.Values.{value_read}
 use Rattle.gob_meaning.specs.Steps.{columns_after, columns_behind}
-use Rattle.gob_jobs.specs.Words.{and_then, value_map, both, only_if, each_read, pieces, words_of, value_word, number_within}
+use Rattle.gob_jobs.specs.Words.{and_then, value_map, both, only_if, each_read, pieces, words_of, value_word}
+use Rattle.gob_jobs.specs.Words.{number_within}
 
 -- words, from which an X is read
 abbrev pub Form : Type 0 → Type 0
@@ -91,13 +92,15 @@ check_forms =
 -- a first word, a column and the words behind it
 abbrev pub check_words : Bool → Form TestSpec
 check_words negated (first ∷ column ∷ more) =
-    both (λ name c. record { negated = negated; column = name; check = c }) (column_word column) (formed check_forms (first ∷ more))
+    both (λ name c. record { negated = negated; column = name; check = c }) (column_word column)
+    (formed check_forms (first ∷ more))
 check_words negated _ = None
 
 -- a test as it is worded, with one `not` in front or none; a value to compare with is still a text
 unfoldable pub worded_test : Form TestSpec
 worded_test [] = None
-worded_test (first ∷ more) = if bytes_eq first (codes "not") then check_words true more else check_words false (first ∷ more)
+worded_test (first ∷ more) = if bytes_eq first (codes "not") then check_words true more else check_words false
+    (first ∷ more)
 
 -- the check with the value that its text means to a column of this kind
 abbrev pub check_of_kind : Kind → Check → Option Check
@@ -109,7 +112,8 @@ abbrev pub test_of_kind : TestSpec → Option Kind → Result TestSpec Refusal
 test_of_kind t None = Err (NoColumn t.column)
 test_of_kind t (Some k) =
     if check_takes t.check k
-    then ok_or (option_map (λ c. record t { check = c }) (option_and_then (only_if (λ c. check_is_right c k)) (check_of_kind k t.check))) BadValue
+    then ok_or (option_map (λ c. record t { check = c }) (option_and_then (only_if (λ c. check_is_right c k))
+    (check_of_kind k t.check))) BadValue
     else Err (BadKind t.column)
 
 -- a worded test over these columns
@@ -144,7 +148,8 @@ cast_words _ = None
 -- a column, a kind and a value of this kind
 abbrev pub set_words : Form StepSpec
 set_words (c ∷ k ∷ v ∷ []) =
-    option_and_then (λ to. both (λ name w. step.Set name to w) (column_word c) (option_and_then (value_read to) (value_word v))) (at_name kinds k)
+    option_and_then (λ to. both (λ name w. step.Set name to w) (column_word c)
+    (option_and_then (value_read to) (value_word v))) (at_name kinds k)
 set_words _ = None
 
 -- a column and a separator
@@ -187,7 +192,8 @@ step_read columns element = and_then (step_over columns) (ok_or (formed step_for
 -- the steps that elements are, each on the columns behind those before it, or the first refusal
 unfoldable pub steps_read : List Column → List (List ℕ) → Result (List StepSpec) Refusal
 steps_read columns [] = Ok []
-steps_read columns (e ∷ es) = and_then (λ s. value_map (λ ss. s ∷ ss) (steps_read (columns_behind s columns) es)) (step_read columns e)
+steps_read columns (e ∷ es) = and_then (λ s. value_map (λ ss. s ∷ ss) (steps_read (columns_behind s columns) es))
+    (step_read columns e)
 
 -- ---- places
 
@@ -207,16 +213,19 @@ place_forms = (codes "plain", plain_words) ∷ (codes "day", day_words) ∷ []
 
 -- the counters of a unit by their words
 abbrev pub unit_counters : Table Counter
-unit_counters = (codes "records", counter.Records) ∷ (codes "bad", counter.Bad) ∷ (codes "rows", counter.Rows) ∷ (codes "unrouted", counter.Unrouted) ∷ []
+unit_counters = (codes "records", counter.Records) ∷ (codes "bad", counter.Bad) ∷ (codes "rows", counter.Rows) ∷
+    (codes "unrouted", counter.Unrouted) ∷ []
 
 -- those of a branch
 abbrev pub branch_counters : Table (ℕ → Counter)
-branch_counters = (codes "written", counter.Written) ∷ (codes "errors", counter.Errors) ∷ (codes "optional", counter.Optional) ∷ []
+branch_counters = (codes "written", counter.Written) ∷ (codes "errors", counter.Errors) ∷
+    (codes "optional", counter.Optional) ∷ []
 
 -- a branch's counter: its word, a dot, and the number of a branch
 abbrev pub branch_counter : ℕ → Form Counter
 branch_counter branches (word ∷ b ∷ []) =
-    both (λ make n. make n) (at_name branch_counters word) (option_and_then (only_if (λ n. nat_lt n branches)) (number_read b))
+    both (λ make n. make n) (at_name branch_counters word) (option_and_then (only_if (λ n. nat_lt n branches))
+    (number_read b))
 branch_counter branches _ = None
 
 -- the counter that a word is, where there are so many branches
@@ -226,13 +235,15 @@ counter_read branches word = option_or (at_name unit_counters word) (branch_coun
 -- a counter, a least and a greatest number
 abbrev pub range_words : ℕ → Form TaskRule
 range_words branches (c ∷ low ∷ high ∷ []) =
-    option_and_then (λ of. both (λ l h. rule.Range of l h) (number_read low) (number_read high)) (counter_read branches c)
+    option_and_then (λ of. both (λ l h. rule.Range of l h) (number_read low) (number_read high))
+    (counter_read branches c)
 range_words branches _ = None
 
 -- two counters and a number of thousandths
 abbrev pub share_words : ℕ → Form TaskRule
 share_words branches (c ∷ d ∷ p ∷ []) =
-    option_and_then (λ n. both (λ part whole. rule.Share part whole n) (counter_read branches c) (counter_read branches d)) (number_within 0 1000 p)
+    option_and_then (λ n. both (λ part whole. rule.Share part whole n) (counter_read branches c)
+    (counter_read branches d)) (number_within 0 1000 p)
 share_words branches _ = None
 
 -- the least number isn't above the greatest

@@ -1,7 +1,8 @@
--- The keys of a job file, as a table: a row for each key, with the value that it takes where it is absent and how its value
--- is read.
+-- The keys of a job file, as a table: a row for each key, with the value that it takes where it is absent and how its
+-- value is read.
 use Prim.Native.String.{String}
-use Rattle.std.specs.Prelude.{ℕ, ◌+◌, ◌-◌, ◌^◌, Bool, true, false, ◌&&◌, nat_eq, nat_le, if◌then◌else◌, List, [], ◌∷◌, ◌++◌, length, map, zip, codes}
+use Rattle.std.specs.Prelude.{ℕ, ◌+◌, ◌-◌, ◌^◌, Bool, true, false, ◌&&◌, nat_eq, nat_le, if◌then◌else◌, List, [], ◌∷◌}
+use Rattle.std.specs.Prelude.{◌++◌, length, map, zip, codes}
 use Rattle.std.specs.declared.option.Option.{Option}
 use Rattle.std.specs.declared.option.Option.TheVariants.{None, Some}
 use Rattle.std.specs.declared.result.Result.{Result}
@@ -36,7 +37,8 @@ use Rattle.gob_plan.specs.declared.plan.TurnRules.{TurnRules}
 use Rattle.gob_plan.specs.Columns.{is_columns}
 use Rattle.gob_meaning.specs.Steps.{columns_through}
 use Rattle.gob_meaning.specs.Plans.{write_refusal, place_refusal}
-use Rattle.gob_jobs.specs.Words.{and_then, value_map, fault_map, both, only_if, each_read, each_or_fault, is_empty, pieces, elements, few_elements, words_of, number_within}
+use Rattle.gob_jobs.specs.Words.{and_then, value_map, fault_map, both, only_if, each_read, each_or_fault, is_empty}
+use Rattle.gob_jobs.specs.Words.{pieces, elements, few_elements, words_of, number_within}
 use Rattle.gob_jobs.specs.Elements.{Form, formed, column_word, kinds, place_forms, test_read, steps_read, rule_read}
 
 -- ---- what is read
@@ -68,8 +70,8 @@ pub data Reader : Type 0 where
 
 -- ---- rows
 
--- whether a key stands once, or once for each branch behind a dot and the branch's number, and then maybe for all branches
--- that have none of their own
+-- whether a key stands once, or once for each branch behind a dot and the branch's number, and then maybe for all
+-- branches that have none of their own
 pub data Standing : Type 0 where
   once : Standing
   for_each_branch : Standing
@@ -165,7 +167,8 @@ abbrev pub into_branch : {X : Type 0} → (Draft → List ℕ → Result X Value
 into_branch read put = of_plan (λ d value. value_map (λ x. record d { branch = put x d.branch }) (read d value))
 
 -- one that goes into the rules of runs
-abbrev pub into_rules : {X : Type 0} → (Plan → RunRules → List ℕ → Result X ValueFault) → (X → RunRules → RunRules) → Reader
+abbrev pub into_rules : {X : Type 0} → (Plan → RunRules → List ℕ → Result X ValueFault) → (X → RunRules → RunRules)
+    → Reader
 into_rules read put = of_runs (λ plan rules value. value_map (λ x. put x rules) (read plan rules value))
 
 -- one of these words
@@ -245,7 +248,8 @@ columns_read format.Json value = columns_listed value
 
 -- the source's columns, by its format
 abbrev pub source_columns : Reader
-source_columns = into_plan (λ plan value. known (columns_read plan.format value)) (λ columns plan. record plan { columns = columns })
+source_columns = into_plan (λ plan value. known (columns_read plan.format value))
+    (λ columns plan. record plan { columns = columns })
 
 -- ---- steps and branches
 
@@ -259,7 +263,8 @@ branch_columns d = columns_through d.branch.steps (shared_columns d.plan)
 
 -- a list of at most 32 steps over these columns
 unfoldable pub steps_listed : List Column → List ℕ → Result (List StepSpec) ValueFault
-steps_listed columns value = and_then (λ es. fault_map refused (steps_read columns es)) (known (few_elements 32 59 value))
+steps_listed columns value = and_then (λ es. fault_map refused (steps_read columns es))
+    (known (few_elements 32 59 value))
 
 -- a list of at most 16 tests of these columns
 unfoldable pub tests_listed : List Column → List ℕ → Result (List TestSpec) ValueFault
@@ -272,8 +277,10 @@ shared_steps = into_plan (λ plan value. steps_listed plan.columns value) (λ st
 -- the tests of a fork with one more; where all branches take each row there is none
 unfoldable pub fork_tests : ForkHow → List TestSpec → List Column → List ℕ → Result (List TestSpec) ValueFault
 fork_tests fork_how.All tests columns value = if is_empty value then Ok tests else Err (refused BadValue)
-fork_tests fork_how.Each tests columns value = value_map (λ t. tests ++ t ∷ []) (fault_map refused (test_read columns value))
-fork_tests fork_how.First tests columns value = value_map (λ t. tests ++ t ∷ []) (fault_map refused (test_read columns value))
+fork_tests fork_how.Each tests columns value = value_map (λ t. tests ++ t ∷ [])
+    (fault_map refused (test_read columns value))
+fork_tests fork_how.First tests columns value = value_map (λ t. tests ++ t ∷ [])
+    (fault_map refused (test_read columns value))
 
 abbrev pub branch_test : Reader
 branch_test =
@@ -281,7 +288,8 @@ branch_test =
     (λ tests plan. record plan { fork = record plan.fork { tests = tests } })
 
 abbrev pub branch_steps : Reader
-branch_steps = into_branch (λ d value. steps_listed (shared_columns d.plan) value) (λ steps branch. record branch { steps = steps })
+branch_steps = into_branch (λ d value. steps_listed (shared_columns d.plan) value)
+    (λ steps branch. record branch { steps = steps })
 
 -- a policy of this test; until its mode is read it fails its unit
 abbrev pub strict_policy : TestSpec → PolicySpec
@@ -318,7 +326,8 @@ branch_format = into_branch (λ d value. format_read (branch_columns d) value) (
 
 -- the place of a branch with these columns
 unfoldable pub place_read : List Column → List ℕ → Result PlaceSpec ValueFault
-place_read columns value = and_then (λ p. unless_refused (place_refusal p columns) p) (known (formed place_forms (words_of value)))
+place_read columns value = and_then (λ p. unless_refused (place_refusal p columns) p)
+    (known (formed place_forms (words_of value)))
 
 abbrev pub branch_place : Reader
 branch_place = into_branch (λ d value. place_read (branch_columns d) value) (λ p branch. record branch { place = p })
@@ -352,7 +361,8 @@ task_policy_modes =
 -- 1 to 64 numbers from 0 to 63
 unfoldable pub schedule_read : List ℕ → Option (List ℕ)
 schedule_read value =
-    option_and_then (only_if (λ ns. nat_le 1 (length ns) && nat_le (length ns) 64)) (list_read 44 (number_within 0 63) value)
+    option_and_then (only_if (λ ns. nat_le 1 (length ns) && nat_le (length ns) 64))
+    (list_read 44 (number_within 0 63) value)
 
 abbrev pub schedule : Reader
 schedule = into_rules (λ plan rules value. known (schedule_read value)) with_schedule

@@ -29,7 +29,8 @@ pub record IsInRanges (job : Job) : Type 0 where
   pub turns : IsWithin 1 64 (length job.turns.schedule)
   pub schedule : All (λ n. n ≤ 63) job.turns.schedule
 
--- what is known of a job that was read: its plan fits, its numbers are in their ranges, and its pipeline text tells its plan
+-- what is known of a job that was read: its plan fits, its numbers are in their ranges, and its pipeline text tells its
+-- plan
 pub record IsJob (name : List ℕ) (job : Job) : Type 0 where
   pub named : job.name ≡ name
   pub fitting : IsFitting job.plan
@@ -45,7 +46,8 @@ JobsAreRight = (name : List ℕ) (entries : Table (List ℕ)) (job : Job) → jo
 
 -- a text reads as the settings that it is the text of, and no other text has settings
 abbrev pub SettingsAreRead : Type 0
-SettingsAreRead = (text : List ℕ) (settings : List Setting) → (settings_in text ≡ Some settings) ↔ (All (λ s. IsSetting s.0 s.1) settings × (text ≡ pipeline_text settings))
+SettingsAreRead = (text : List ℕ) (settings : List Setting) → (settings_in text ≡ Some settings) ↔
+    (All (λ s. IsSetting s.0 s.1) settings × (text ≡ pipeline_text settings))
 
 -- a plan that a text tells fits, and has no limit on bad lines and no rules for tasks; the text is a pipeline text
 pub record IsTold (text : List ℕ) (plan : Plan) : Type 0 where
@@ -69,7 +71,8 @@ IsKeyOf branches row key =
 pub record TellsUnknown (entries : Table (List ℕ)) : Type 0 where
   pub is_unknown : List ℕ → Bool
   pub keys : unknown_keys entries ≡ filter is_unknown (names_of entries)
-  pub none : (key : List ℕ) → (is_unknown key ≡ true) ↔ ((row : Row) → Contains key_table row → IsKeyOf (branches_told (at_name entries)) row key → ⊥)
+  pub none : (key : List ℕ) → (is_unknown key ≡ true) ↔ ((row : Row) → Contains key_table row
+      → IsKeyOf (branches_told (at_name entries)) row key → ⊥)
 
 -- of all keys and values
 abbrev pub UnknownKeysAreTold : Type 0

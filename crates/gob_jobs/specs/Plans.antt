@@ -15,7 +15,8 @@ use Rattle.gob_jobs.specs.Reading.{LookUp, Reading, nothing_read, read_table}
 unfoldable pub plan_told : LookUp → Option Plan
 plan_told look =
     option_map (λ (r : Reading). without_rules r.draft.plan)
-    (result_ok (read_table look (filter tells_plan first_rows) (filter tells_plan branch_rows) (filter tells_plan last_rows) nothing_read))
+    (result_ok (read_table look (filter tells_plan first_rows) (filter tells_plan branch_rows)
+    (filter tells_plan last_rows) nothing_read))
 
 -- the plan that a text stands for, if it is a pipeline text and tells one
 unfoldable pub plan_of : List ℕ → Option Plan

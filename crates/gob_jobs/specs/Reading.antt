@@ -1,5 +1,6 @@
 -- How the rows of the key table are read over a look-up of values, one after the other, and what a job file reads as.
-use Rattle.std.specs.Prelude.{ℕ, ◌-◌, ◌^◌, Bool, true, false, ◌&&◌, ◌||◌, not, nat_eq, nat_lt, if◌then◌else◌, List, [], ◌∷◌, ◌++◌, map, filter, codes}
+use Rattle.std.specs.Prelude.{ℕ, ◌-◌, ◌^◌, Bool, true, false, ◌&&◌, ◌||◌, not, nat_eq, nat_lt, if◌then◌else◌, List, []}
+use Rattle.std.specs.Prelude.{◌∷◌, ◌++◌, map, filter, codes}
 use Rattle.std.specs.declared.option.Option.{Option}
 use Rattle.std.specs.declared.option.Option.TheVariants.{None, Some}
 use Rattle.std.specs.declared.result.Result.{Result}
@@ -24,7 +25,10 @@ use Rattle.gob_props.specs.declared.fault.PropsFault.{PropsFault}
 use Rattle.gob_meaning.specs.Job.{Job, plain_job}
 use Rattle.gob_jobs.specs.Pipelines.{Setting, pipeline_text}
 use Rattle.gob_jobs.specs.Words.{and_then, value_map, fault_map, trimmed, number_within}
-use Rattle.gob_jobs.specs.KeyTable.{Draft, RunRules, ValueFault, refused, bad_count, Reader, of_plan, of_runs, Standing, once, for_each_branch, for_each_branch_or_all, Need, needed, else_is, needed_unless_lines, needed_unless_all, Row, tells_plan, first_rows, branch_rows, last_rows, key_table}
+use Rattle.gob_jobs.specs.KeyTable.{Draft, RunRules, ValueFault, refused, bad_count, Reader, of_plan, of_runs, Standing}
+use Rattle.gob_jobs.specs.KeyTable.{once, for_each_branch, for_each_branch_or_all, Need, needed, else_is}
+use Rattle.gob_jobs.specs.KeyTable.{needed_unless_lines, needed_unless_all, Row, tells_plan, first_rows, branch_rows}
+use Rattle.gob_jobs.specs.KeyTable.{last_rows, key_table}
 
 -- why there is no job; each names a key, and maybe a column
 pub data JobFault : Type 0 where
@@ -58,7 +62,8 @@ own_key row b = by_standing row.standing row.key (with_number row.key b) (with_n
 -- the key that counts: that of all branches only where the branch has none of its own
 abbrev pub key_that_counts : LookUp → Row → ℕ → List ℕ
 key_that_counts look row b =
-    let own = with_number row.key b in by_standing row.standing row.key own (if is_some (look own) then own else row.key)
+    let own = with_number row.key b in by_standing row.standing row.key own
+    (if is_some (look own) then own else row.key)
 
 -- the key that is said to be missing; one for all branches would do where there is one branch
 abbrev pub missing_key : Row → ℕ → ℕ → List ℕ
@@ -128,7 +133,8 @@ read_value (of_runs read) r value = value_map (λ rules. record r { rules = rule
 -- a row read in a branch, or its fault
 unfoldable pub read_row : LookUp → Row → ℕ → Reading → Result Reading JobFault
 read_row look row b r =
-    and_then (λ value. fault_map (fault_at (key_that_counts look row b)) (read_value row.reader r value)) (value_of_row look row b r.draft.plan)
+    and_then (λ value. fault_map (fault_at (key_that_counts look row b)) (read_value row.reader r value))
+    (value_of_row look row b r.draft.plan)
 
 -- rows read one after the other, or the first fault
 abbrev pub read_rows : LookUp → List Row → ℕ → Reading → Result Reading JobFault
@@ -141,17 +147,25 @@ no_branch = record { steps = []; policies = []; format = format.Lines; place = p
 
 -- the branch that was read joins the plan
 abbrev pub with_branch : Reading → Reading
-with_branch r = record r { draft = record { plan = record r.draft.plan { branches = r.draft.plan.branches ++ r.draft.branch ∷ [] }; branch = no_branch } }
+with_branch r = record r {
+  draft = record {
+    plan = record r.draft.plan
+        { branches = r.draft.plan.branches ++ r.draft.branch ∷ [] };
+    branch = no_branch;
+  };
+}
 
 -- the rows read whole for each of these branches
 abbrev pub read_branches : LookUp → List Row → List ℕ → Reading → Result Reading JobFault
 read_branches look rows [] r = Ok r
-read_branches look rows (b ∷ bs) r = and_then (λ s. read_branches look rows bs (with_branch s)) (read_rows look rows b r)
+read_branches look rows (b ∷ bs) r = and_then (λ s. read_branches look rows bs (with_branch s))
+    (read_rows look rows b r)
 
 -- rows read in their order: the first ones, then those of each branch, then the last ones
 abbrev pub read_table : LookUp → List Row → List Row → List Row → Reading → Result Reading JobFault
 read_table look firsts each lasts r =
-    and_then (λ s. and_then (read_rows look lasts 0) (read_branches look each (range_with_len 0 s.draft.plan.fork.branches) s))
+    and_then (λ s. and_then (read_rows look lasts 0) (read_branches look each
+    (range_with_len 0 s.draft.plan.fork.branches) s))
     (read_rows look firsts 0 r)
 
 -- before a key is read there is the plain job without its branch; each part of it is then replaced
@@ -221,7 +235,8 @@ job_read name look r = record {
 
 -- the job of this name that these keys and values describe, or the first fault
 unfoldable pub job_of : List ℕ → Table (List ℕ) → Result Job JobFault
-job_of name entries = value_map (job_read name (at_name entries)) (read_table (at_name entries) first_rows branch_rows last_rows nothing_read)
+job_of name entries = value_map (job_read name (at_name entries))
+    (read_table (at_name entries) first_rows branch_rows last_rows nothing_read)
 
 -- what a job file reads as, where it is a properties text
 abbrev pub job_in_file : List ℕ → List ℕ → Result (Result Job JobFault) PropsFault
@@ -231,12 +246,14 @@ job_in_file name bytes = value_map (job_of name) (properties_of bytes)
 
 -- how many branches there are, one where no number is told
 abbrev pub branches_told : LookUp → ℕ
-branches_told look = unwrap_or (option_and_then (λ value. number_within 1 8 (trimmed value)) (look (codes "fork.branches"))) 1
+branches_told look = unwrap_or (option_and_then (λ value. number_within 1 8 (trimmed value))
+    (look (codes "fork.branches"))) 1
 
 -- a row's keys, where there are so many branches
 abbrev pub keys_of_row : ℕ → Row → List (List ℕ)
 keys_of_row branches row =
-    let own = map (with_number row.key) (range_with_len 0 branches) in by_standing row.standing (row.key ∷ []) own (row.key ∷ own)
+    let own = map (with_number row.key) (range_with_len 0 branches) in
+    by_standing row.standing (row.key ∷ []) own (row.key ∷ own)
 
 -- the key of a row, where there are so many branches
 abbrev pub is_known : ℕ → List ℕ → Bool

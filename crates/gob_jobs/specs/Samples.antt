@@ -39,11 +39,13 @@ test negated name c = record { negated = negated; column = codes name; check = c
 
 -- the fault of a job file, if it has one
 abbrev pub fault_in : List ℕ → Option JobFault
-fault_in file = option_and_then (λ (job : Result Job JobFault). result_err job) (result_ok (job_in_file (codes "j") file))
+fault_in file = option_and_then (λ (job : Result Job JobFault). result_err job)
+    (result_ok (job_in_file (codes "j") file))
 
 -- the plan of a job file, if it has one
 abbrev pub plan_in : List ℕ → Option Plan
-plan_in file = option_and_then (λ (job : Result Job JobFault). option_and_then (λ (j : Job). Some j.plan) (result_ok job)) (result_ok (job_in_file (codes "j") file))
+plan_in file = option_and_then (λ (job : Result Job JobFault).
+    option_and_then (λ (j : Job). Some j.plan) (result_ok job)) (result_ok (job_in_file (codes "j") file))
 
 -- a key and its value
 abbrev pub is_at : String → String → List ℕ × List ℕ

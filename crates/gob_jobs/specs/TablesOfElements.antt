@@ -1,6 +1,7 @@
 -- What elements read as: the forms of words, tests, steps, task rules and columns, each as a table.
 use Prim.Native.String.{String}
-use Rattle.std.specs.Prelude.{◌≡◌, ℕ, ◌-◌, ◌^◌, Bool, true, false, pos, negsuc, List, [], ◌∷◌, ◌++◌, map, length, replicate, codes}
+use Rattle.std.specs.Prelude.{◌≡◌, ℕ, ◌-◌, ◌^◌, Bool, true, false, pos, negsuc, List, [], ◌∷◌, ◌++◌, map, length}
+use Rattle.std.specs.Prelude.{replicate, codes}
 use Rattle.std.specs.declared.option.Option.{Option}
 use Rattle.std.specs.declared.option.Option.TheVariants.{None, Some}
 use Rattle.std.specs.declared.result.Result.{Result}
@@ -253,7 +254,11 @@ StepForms = AllRead (step_read one_of_each) (
 abbrev pub StepsAfterSteps : Type 0
 StepsAfterSteps = AllAre (steps_read one_of_each) (
     ([], Ok [])
-    ∷ (codes "rename t n" ∷ codes "upper n" ∷ [], Ok (step.Rename (codes "t") (codes "n") ∷ step.Upper (codes "n") ∷ []))
+    ∷ (
+      codes "rename t n" ∷ codes "upper n" ∷ [],
+      Ok (step.Rename (codes "t") (codes "n") ∷ step.Upper (codes "n") ∷
+          []),
+    )
     ∷ (codes "drop i" ∷ codes "cast i text" ∷ [], absent "i")
     ∷ (codes "cast t int" ∷ codes "upper t" ∷ [], wrong "t")
     ∷ (codes "upper i" ∷ codes "sort" ∷ [], wrong "i")
@@ -380,11 +385,13 @@ LongestSchedule = AllAre (λ n. option_map length (schedule_read (listed n "," "
 
 -- as many elements as may stand, and one more
 abbrev pub LongestLists : Type 0
-LongestLists = AllAre (λ most. option_map length (few_elements most 59 (listed 2 ";" "x"))) ((3, Some 3) ∷ (2, None) ∷ [])
+LongestLists = AllAre (λ most. option_map length (few_elements most 59 (listed 2 ";" "x")))
+    ((3, Some 3) ∷ (2, None) ∷ [])
 
 -- both ends of a range, and one past each
 abbrev pub NumbersWithin : Type 0
-NumbersWithin = AllRead (number_within 2 4) (("1", None) ∷ ("2", Some 2) ∷ ("4", Some 4) ∷ ("5", None) ∷ ("02", None) ∷ ("+2", None) ∷ ("", None) ∷ [])
+NumbersWithin = AllRead (number_within 2 4) (("1", None) ∷ ("2", Some 2) ∷ ("4", Some 4) ∷ ("5", None) ∷ ("02", None) ∷
+    ("+2", None) ∷ ("", None) ∷ [])
 
 -- all of these
 pub record ElementTables : Type 0 where

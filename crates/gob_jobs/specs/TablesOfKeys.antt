@@ -1,6 +1,7 @@
 -- What job files read as, key by key: values, defaults, ranges, words, and which fault comes first.
 use Prim.Native.String.{String}
-use Rattle.std.specs.Prelude.{◌≡◌, ℕ, ◌+◌, Bool, true, false, pos, List, [], ◌∷◌, ◌++◌, map, take, drop, zip, length, replicate, codes}
+use Rattle.std.specs.Prelude.{◌≡◌, ℕ, ◌+◌, Bool, true, false, pos, List, [], ◌∷◌, ◌++◌, map, take, drop, zip, length}
+use Rattle.std.specs.Prelude.{replicate, codes}
 use Rattle.std.specs.declared.option.Option.{Option}
 use Rattle.std.specs.declared.option.Option.TheVariants.{None, Some}
 use Rattle.std.specs.declared.result.Result.TheVariants.{Ok}
@@ -24,7 +25,8 @@ use Rattle.gob_plan.specs.declared.plan.Plan.{Plan}
 use Rattle.gob_plan.specs.declared.plan.TaskRule.TheVariants as rule
 use Rattle.gob_meaning.specs.Job.{Job, plain_file, plain_job}
 use Rattle.gob_jobs.specs.KeyTable.{Row, first_rows, branch_rows, last_rows, key_table}
-use Rattle.gob_jobs.specs.Reading.{JobFault, missing, bad_value, bad_policy_count, no_column, bad_kind, interpolation, own_key, job_of, job_in_file, unknown_keys, pipeline_of}
+use Rattle.gob_jobs.specs.Reading.{JobFault, missing, bad_value, bad_policy_count, no_column, bad_kind, interpolation}
+use Rattle.gob_jobs.specs.Reading.{own_key, job_of, job_in_file, unknown_keys, pipeline_of}
 use Rattle.gob_jobs.specs.Samples.{AllRead, AllAre, column, test, fault_in, fault_of, is_at}
 
 -- ---- jobs
@@ -85,7 +87,11 @@ full_plan = record {
   skip_header = true;
   steps = step.Upper (codes "a") ∷ step.Copy (codes "i") (codes "n") ∷ [];
   skip_errors = 13;
-  fork = record { how = fork_how.Each; branches = 2; tests = test false "i" check.Null ∷ test true "n" check.Null ∷ [] };
+  fork = record {
+    how = fork_how.Each;
+    branches = 2;
+    tests = test false "i" check.Null ∷ test true "n" check.Null ∷ [];
+  };
   branches = record {
     steps = step.Keep (codes "a" ∷ []) ∷ [];
     policies = record { test = test false "a" (check.Compare how.Eq (value.Text (codes "x"))); mode = mode.Optional }
@@ -100,7 +106,8 @@ full_plan = record {
     format = format.Json;
     place = place.Day (codes "n");
   } ∷ [];
-  task_policies = record { rule = rule.Range counter.Records 1 2; fails = false } ∷ record { rule = rule.Share counter.Bad counter.Rows 5; fails = true } ∷ [];
+  task_policies = record { rule = rule.Range counter.Records 1 2; fails = false } ∷ record
+      { rule = rule.Share counter.Bad counter.Rows 5; fails = true } ∷ [];
 }
 
 -- its pipeline text
@@ -128,7 +135,8 @@ refused_entries = map (λ e. (e.0, codes "a ${b}")) full_entries
 
 -- where the first so many keys are right, the next one is refused; keys that count for no branch aren't read
 abbrev pub FirstFaults : Type 0
-FirstFaults = map (λ n. fault_of (take n each_entry ++ drop n refused_entries)) (range_with_len 0 33) ≡ map (λ e. Some (interpolation e.0)) full_entries ++ None ∷ []
+FirstFaults = map (λ n. fault_of (take n each_entry ++ drop n refused_entries)) (range_with_len 0 33) ≡ map
+    (λ e. Some (interpolation e.0)) full_entries ++ None ∷ []
 
 -- each key that has to be there
 abbrev pub MissingKeys : Type 0
@@ -143,7 +151,10 @@ MissingKeys = AllRead fault_in (
     ∷ ("source.format=lines\nwriter.format.0=csv", None)
     ∷ ("source.format=lines\nwriter.format.1=csv", Some (missing (codes "writer.format")))
     ∷ ("source.format=lines\nfork.operator.class=each\nwriter.format=csv", Some (missing (codes "fork.test.0")))
-    ∷ ("source.format=lines\nfork.operator.class=first\nfork.branches=2\nfork.test.0=null line\nwriter.format=csv", Some (missing (codes "fork.test.1")))
+    ∷ (
+      "source.format=lines\nfork.operator.class=first\nfork.branches=2\nfork.test.0=null line\nwriter.format=csv",
+      Some (missing (codes "fork.test.1")),
+    )
     ∷ [])
 
 -- present and empty isn't absent
@@ -158,8 +169,14 @@ EmptyValues = AllRead fault_in (
     ∷ ("source.format=lines\nwriter.format=lines\nfork.branches=", Some (bad_value (codes "fork.branches")))
     ∷ ("source.format=lines\nwriter.format=lines\nfork.test.0=", None)
     ∷ ("source.format=lines\nwriter.format=lines\nfork.test.0=null line", Some (bad_value (codes "fork.test.0")))
-    ∷ ("source.format=lines\nwriter.format=lines\nfork.operator.class=each\nfork.test.0=", Some (bad_value (codes "fork.test.0")))
-    ∷ ("source.format=lines\nwriter.format=lines\nfork.operator.class=first\nfork.test.0=", Some (bad_value (codes "fork.test.0")))
+    ∷ (
+      "source.format=lines\nwriter.format=lines\nfork.operator.class=each\nfork.test.0=",
+      Some (bad_value (codes "fork.test.0")),
+    )
+    ∷ (
+      "source.format=lines\nwriter.format=lines\nfork.operator.class=first\nfork.test.0=",
+      Some (bad_value (codes "fork.test.0")),
+    )
     ∷ ("source.format=lines\nwriter.format=lines\nconverter.classes=\nconverter.classes.0=\nqualitychecker.row.policies=\nqualitychecker.row.policy.types=\nqualitychecker.task.policies=\nqualitychecker.task.policy.types=\nsource.prefix=\njob.name=", None)
     ∷ ("source.format=lines\nwriter.format=lines\nwriter.placer=", Some (bad_value (codes "writer.placer")))
     ∷ ("source.format=lines\nwriter.format=lines\ntask.schedule=", Some (bad_value (codes "task.schedule")))
@@ -248,52 +265,140 @@ LongLists = AllAre lines_and (
     ∷ ((codes "converter.classes", so_many 32 ";" "upper line") ∷ [], Some (bad_value (codes "converter.classes")))
     ∷ ((codes "converter.classes.0", so_many 31 ";" "upper line") ∷ [], None)
     ∷ ((codes "converter.classes.0", so_many 32 ";" "upper line") ∷ [], Some (bad_value (codes "converter.classes.0")))
-    ∷ ((codes "qualitychecker.row.policies", so_many 15 ";" "null line") ∷ (codes "qualitychecker.row.policy.types", so_many 15 "," "FAIL") ∷ [], None)
-    ∷ ((codes "qualitychecker.row.policies", so_many 16 ";" "null line") ∷ (codes "qualitychecker.row.policy.types", so_many 16 "," "FAIL") ∷ [], Some (bad_value (codes "qualitychecker.row.policies")))
-    ∷ ((codes "qualitychecker.row.policies", so_many 15 ";" "null line") ∷ (codes "qualitychecker.row.policy.types", so_many 16 "," "FAIL") ∷ [], Some (bad_policy_count (codes "qualitychecker.row.policy.types")))
-    ∷ ((codes "qualitychecker.task.policies", so_many 15 ";" "range rows 0 1") ∷ (codes "qualitychecker.task.policy.types", so_many 15 "," "FAIL") ∷ [], None)
-    ∷ ((codes "qualitychecker.task.policies", so_many 16 ";" "range rows 0 1") ∷ (codes "qualitychecker.task.policy.types", so_many 16 "," "FAIL") ∷ [], Some (bad_value (codes "qualitychecker.task.policies")))
+    ∷ (
+      (codes "qualitychecker.row.policies", so_many 15 ";" "null line") ∷
+          (codes "qualitychecker.row.policy.types", so_many 15 "," "FAIL") ∷ [],
+      None,
+    )
+    ∷ (
+      (codes "qualitychecker.row.policies", so_many 16 ";" "null line") ∷
+          (codes "qualitychecker.row.policy.types", so_many 16 "," "FAIL") ∷ [],
+      Some (bad_value (codes "qualitychecker.row.policies")),
+    )
+    ∷ (
+      (codes "qualitychecker.row.policies", so_many 15 ";" "null line") ∷
+          (codes "qualitychecker.row.policy.types", so_many 16 "," "FAIL") ∷ [],
+      Some (bad_policy_count (codes "qualitychecker.row.policy.types")),
+    )
+    ∷ (
+      (codes "qualitychecker.task.policies", so_many 15 ";" "range rows 0 1") ∷
+          (codes "qualitychecker.task.policy.types", so_many 15 "," "FAIL") ∷ [],
+      None,
+    )
+    ∷ (
+      (codes "qualitychecker.task.policies", so_many 16 ";" "range rows 0 1") ∷
+          (codes "qualitychecker.task.policy.types", so_many 16 "," "FAIL") ∷ [],
+      Some (bad_value (codes "qualitychecker.task.policies")),
+    )
     ∷ ((codes "task.schedule", so_many 63 "," "1") ∷ [], None)
     ∷ ((codes "task.schedule", so_many 64 "," "1") ∷ [], Some (bad_value (codes "task.schedule")))
     ∷ [])
 
 -- sixty-four columns, and one more
 abbrev pub ManyColumns : Type 0
-ManyColumns = AllAre (λ n. fault_of (is_at "source.format" "csv" ∷ (codes "source.columns", codes "c:int" ++ flat_map (λ i. codes ",c" ++ decimal i ++ codes ":int") (range_with_len 0 n)) ∷ is_at "writer.format" "csv" ∷ []))
+ManyColumns = AllAre (λ n. fault_of (is_at "source.format" "csv" ∷ (
+  codes "source.columns",
+  codes "c:int" ++ flat_map (λ i. codes ",c" ++ decimal i ++ codes ":int")
+      (range_with_len 0 n),
+) ∷ is_at "writer.format" "csv" ∷ []))
     ((63, None) ∷ (64, Some (bad_value (codes "source.columns"))) ∷ [])
 
 -- ---- policies and branches
 
 -- the number of modes, and which fault goes first
 abbrev pub Policies : Type 0
-Policies = AllAre lines_and (
-    (is_at "qualitychecker.row.policies" "null line" ∷ [], Some (bad_policy_count (codes "qualitychecker.row.policy.types")))
-    ∷ (is_at "qualitychecker.row.policies.0" "null line" ∷ [], Some (bad_policy_count (codes "qualitychecker.row.policy.types")))
-    ∷ (is_at "qualitychecker.row.policy.types.0" "FAIL" ∷ [], Some (bad_policy_count (codes "qualitychecker.row.policy.types.0")))
-    ∷ (is_at "qualitychecker.row.policies" "null line" ∷ is_at "qualitychecker.row.policy.types" "FAIL,OPTIONAL" ∷ [], Some (bad_policy_count (codes "qualitychecker.row.policy.types")))
-    ∷ (is_at "qualitychecker.row.policies" "null line" ∷ is_at "qualitychecker.row.policy.types" "FAIL,fail" ∷ [], Some (bad_value (codes "qualitychecker.row.policy.types")))
-    ∷ (is_at "qualitychecker.row.policies" "null line; null zz" ∷ is_at "qualitychecker.row.policy.types" "fail" ∷ [], Some (no_column (codes "qualitychecker.row.policies") (codes "zz")))
-    ∷ (is_at "qualitychecker.row.policies" "null zz; null" ∷ [], Some (no_column (codes "qualitychecker.row.policies") (codes "zz")))
+Policies = AllAre lines_and ((
+  is_at "qualitychecker.row.policies" "null line" ∷ [],
+  Some
+      (bad_policy_count (codes "qualitychecker.row.policy.types")),
+)
+    ∷ (
+      is_at "qualitychecker.row.policies.0" "null line" ∷ [],
+      Some (bad_policy_count (codes "qualitychecker.row.policy.types")),
+    )
+    ∷ (
+      is_at "qualitychecker.row.policy.types.0" "FAIL" ∷ [],
+      Some (bad_policy_count (codes "qualitychecker.row.policy.types.0")),
+    )
+    ∷ (
+      is_at "qualitychecker.row.policies" "null line" ∷ is_at "qualitychecker.row.policy.types" "FAIL,OPTIONAL" ∷ [],
+      Some (bad_policy_count (codes "qualitychecker.row.policy.types")),
+    )
+    ∷ (
+      is_at "qualitychecker.row.policies" "null line" ∷ is_at "qualitychecker.row.policy.types" "FAIL,fail" ∷ [],
+      Some (bad_value (codes "qualitychecker.row.policy.types")),
+    )
+    ∷ (
+      is_at "qualitychecker.row.policies" "null line; null zz" ∷ is_at "qualitychecker.row.policy.types" "fail" ∷ [],
+      Some (no_column (codes "qualitychecker.row.policies") (codes "zz")),
+    )
+    ∷ (
+      is_at "qualitychecker.row.policies" "null zz; null" ∷ [],
+      Some (no_column (codes "qualitychecker.row.policies") (codes "zz")),
+    )
     ∷ (is_at "qualitychecker.row.policies" "null zz; ;" ∷ [], Some (bad_value (codes "qualitychecker.row.policies")))
-    ∷ (is_at "qualitychecker.task.policies" "range records 2 9; share bad records 0" ∷ is_at "qualitychecker.task.policy.types" "FAIL,OPTIONAL" ∷ [], None)
-    ∷ (is_at "qualitychecker.task.policies" "range records 2 9" ∷ [], Some (bad_policy_count (codes "qualitychecker.task.policy.types")))
-    ∷ (is_at "qualitychecker.task.policies" "range records 2 9" ∷ is_at "qualitychecker.task.policy.types" "ERR_FILE" ∷ [], Some (bad_value (codes "qualitychecker.task.policy.types")))
-    ∷ (is_at "qualitychecker.task.policies" "range written.1 2 9" ∷ is_at "fork.branches" "1" ∷ [], Some (bad_value (codes "qualitychecker.task.policies")))
-    ∷ (is_at "qualitychecker.task.policies" "range written.1 2 9" ∷ is_at "qualitychecker.task.policy.types" "FAIL" ∷ is_at "fork.branches" "2" ∷ [], None)
+    ∷ (
+      is_at "qualitychecker.task.policies" "range records 2 9; share bad records 0" ∷ is_at
+          "qualitychecker.task.policy.types" "FAIL,OPTIONAL" ∷ [],
+      None,
+    )
+    ∷ (
+      is_at "qualitychecker.task.policies" "range records 2 9" ∷ [],
+      Some (bad_policy_count (codes "qualitychecker.task.policy.types")),
+    )
+    ∷ (
+      is_at "qualitychecker.task.policies" "range records 2 9" ∷ is_at "qualitychecker.task.policy.types" "ERR_FILE" ∷
+          [],
+      Some (bad_value (codes "qualitychecker.task.policy.types")),
+    )
+    ∷ (
+      is_at "qualitychecker.task.policies" "range written.1 2 9" ∷ is_at "fork.branches" "1" ∷ [],
+      Some (bad_value (codes "qualitychecker.task.policies")),
+    )
+    ∷ (
+      is_at "qualitychecker.task.policies" "range written.1 2 9" ∷ is_at "qualitychecker.task.policy.types" "FAIL" ∷
+          is_at "fork.branches" "2" ∷ [],
+      None,
+    )
     ∷ [])
 
 -- the key of a branch goes before that of all branches; only what counts is read
 abbrev pub BranchKeys : Type 0
 BranchKeys = AllAre fault_of (
     (is_at "source.format" "lines" ∷ is_at "writer.format" "${x}" ∷ is_at "writer.format.0" "csv" ∷ [], None)
-    ∷ (is_at "source.format" "lines" ∷ is_at "writer.format" "csv" ∷ is_at "writer.format.0" "${x}" ∷ [], Some (interpolation (codes "writer.format.0")))
+    ∷ (
+      is_at "source.format" "lines" ∷ is_at "writer.format" "csv" ∷ is_at "writer.format.0" "${x}" ∷ [],
+      Some (interpolation (codes "writer.format.0")),
+    )
     ∷ (is_at "source.format" "lines" ∷ is_at "writer.format" "csv" ∷ is_at "writer.format.1" "${x}" ∷ [], None)
-    ∷ (is_at "source.format" "lines" ∷ is_at "writer.format" "xml" ∷ is_at "fork.branches" "2" ∷ is_at "writer.format.0" "csv" ∷ [], Some (bad_value (codes "writer.format")))
-    ∷ (is_at "source.format" "lines" ∷ is_at "writer.format" "csv" ∷ is_at "fork.test" "${x}" ∷ is_at "job.title" "${x}" ∷ [], None)
-    ∷ (is_at "source.format" "lines" ∷ is_at "writer.format" "csv" ∷ is_at "writer.placer" "day line" ∷ [], Some (bad_kind (codes "writer.placer") (codes "line")))
-    ∷ (is_at "source.format" "lines" ∷ is_at "writer.format" "csv" ∷ is_at "converter.classes" "cast line int" ∷ is_at "converter.classes.0" "rename line n" ∷ is_at "writer.placer.0" "day n" ∷ [], None)
-    ∷ (is_at "source.format" "lines" ∷ is_at "writer.format" "csv" ∷ is_at "converter.classes" "rename line n" ∷ is_at "fork.operator.class" "each" ∷ is_at "fork.test.0" "null line" ∷ [], Some (no_column (codes "fork.test.0") (codes "line")))
-    ∷ (is_at "source.format" "lines" ∷ is_at "writer.format" "lines" ∷ is_at "converter.classes.0" "copy line n" ∷ [], Some (bad_kind (codes "writer.format") (codes "n")))
+    ∷ (
+      is_at "source.format" "lines" ∷ is_at "writer.format" "xml" ∷ is_at "fork.branches" "2" ∷ is_at "writer.format.0"
+          "csv" ∷ [],
+      Some (bad_value (codes "writer.format")),
+    )
+    ∷ (
+      is_at "source.format" "lines" ∷ is_at "writer.format" "csv" ∷ is_at "fork.test" "${x}" ∷ is_at "job.title" "${x}"
+          ∷ [],
+      None,
+    )
+    ∷ (
+      is_at "source.format" "lines" ∷ is_at "writer.format" "csv" ∷ is_at "writer.placer" "day line" ∷ [],
+      Some (bad_kind (codes "writer.placer") (codes "line")),
+    )
+    ∷ (
+      is_at "source.format" "lines" ∷ is_at "writer.format" "csv" ∷ is_at "converter.classes" "cast line int" ∷ is_at
+          "converter.classes.0" "rename line n" ∷ is_at "writer.placer.0" "day n" ∷ [],
+      None,
+    )
+    ∷ (
+      is_at "source.format" "lines" ∷ is_at "writer.format" "csv" ∷ is_at "converter.classes" "rename line n" ∷ is_at
+          "fork.operator.class" "each" ∷ is_at "fork.test.0" "null line" ∷ [],
+      Some (no_column (codes "fork.test.0") (codes "line")),
+    )
+    ∷ (
+      is_at "source.format" "lines" ∷ is_at "writer.format" "lines" ∷ is_at "converter.classes.0" "copy line n" ∷ [],
+      Some (bad_kind (codes "writer.format") (codes "n")),
+    )
     ∷ [])
 
 -- `${` anywhere in a value, and neither of its halves alone
@@ -311,14 +416,38 @@ Interpolations = AllRead (lines_with (codes "source.prefix")) (
 
 -- by the number of branches
 abbrev pub UnknownKeys : Type 0
-UnknownKeys = let keys : Table (List ℕ) = map (λ row. (row.key, [])) key_table ++ map (λ row. (row.key ++ codes ".0", [])) branch_rows ++ map (λ row. (row.key ++ codes ".1", [])) branch_rows
-    ++ is_at "writer.format.00" "" ∷ is_at "writer.format." "" ∷ is_at "task.slots.0" "" ∷ is_at "data.publisher.final.dir" "" ∷ is_at "" "" ∷ is_at "writer.format.2" "" ∷ [] in
-    AllAre (λ (branches : Table (List ℕ)). unknown_keys (branches ++ keys)) (
-    ([], codes "fork.test" ∷ map (λ row. row.key ++ codes ".1") branch_rows ++ codes "writer.format.00" ∷ codes "writer.format." ∷ codes "task.slots.0" ∷ codes "data.publisher.final.dir" ∷ [] ∷ codes "writer.format.2" ∷ [])
-    ∷ (is_at "fork.branches" " 2 " ∷ [], codes "fork.test" ∷ codes "writer.format.00" ∷ codes "writer.format." ∷ codes "task.slots.0" ∷ codes "data.publisher.final.dir" ∷ [] ∷ codes "writer.format.2" ∷ [])
-    ∷ (is_at "fork.branches" "8" ∷ [], codes "fork.test" ∷ codes "writer.format.00" ∷ codes "writer.format." ∷ codes "task.slots.0" ∷ codes "data.publisher.final.dir" ∷ [] ∷ [])
-    ∷ (is_at "fork.branches" "9" ∷ [], codes "fork.test" ∷ map (λ row. row.key ++ codes ".1") branch_rows ++ codes "writer.format.00" ∷ codes "writer.format." ∷ codes "task.slots.0" ∷ codes "data.publisher.final.dir" ∷ [] ∷ codes "writer.format.2" ∷ [])
-    ∷ (is_at "fork.branches" "0" ∷ [], codes "fork.test" ∷ map (λ row. row.key ++ codes ".1") branch_rows ++ codes "writer.format.00" ∷ codes "writer.format." ∷ codes "task.slots.0" ∷ codes "data.publisher.final.dir" ∷ [] ∷ codes "writer.format.2" ∷ [])
+UnknownKeys = let keys : Table (List ℕ) = map (λ row. (row.key, [])) key_table
+    ++ map (λ row. (row.key ++ codes ".0", [])) branch_rows ++ map (λ row. (row.key ++ codes ".1", [])) branch_rows
+    ++ is_at "writer.format.00" "" ∷ is_at "writer.format." "" ∷ is_at "task.slots.0" "" ∷ is_at
+    "data.publisher.final.dir" "" ∷ is_at "" "" ∷ is_at "writer.format.2" "" ∷ [] in
+    AllAre (λ (branches : Table (List ℕ)). unknown_keys (branches ++ keys)) ((
+      [],
+      codes "fork.test" ∷ map (λ row. row.key ++ codes ".1") branch_rows
+          ++ codes "writer.format.00" ∷ codes "writer.format." ∷ codes "task.slots.0" ∷ codes "data.publisher.final.dir" ∷
+          [] ∷ codes "writer.format.2" ∷ [],
+    )
+    ∷ (
+      is_at "fork.branches" " 2 " ∷ [],
+      codes "fork.test" ∷ codes "writer.format.00" ∷ codes "writer.format." ∷ codes
+          "task.slots.0" ∷ codes "data.publisher.final.dir" ∷ [] ∷ codes "writer.format.2" ∷ [],
+    )
+    ∷ (
+      is_at "fork.branches" "8" ∷ [],
+      codes "fork.test" ∷ codes "writer.format.00" ∷ codes "writer.format." ∷ codes
+          "task.slots.0" ∷ codes "data.publisher.final.dir" ∷ [] ∷ [],
+    )
+    ∷ (
+      is_at "fork.branches" "9" ∷ [],
+      codes "fork.test" ∷ map (λ row. row.key ++ codes ".1") branch_rows
+          ++ codes "writer.format.00" ∷ codes "writer.format." ∷ codes "task.slots.0" ∷ codes "data.publisher.final.dir" ∷
+          [] ∷ codes "writer.format.2" ∷ [],
+    )
+    ∷ (
+      is_at "fork.branches" "0" ∷ [],
+      codes "fork.test" ∷ map (λ row. row.key ++ codes ".1") branch_rows
+          ++ codes "writer.format.00" ∷ codes "writer.format." ∷ codes "task.slots.0" ∷ codes "data.publisher.final.dir" ∷
+          [] ∷ codes "writer.format.2" ∷ [],
+    )
     ∷ [])
 
 -- all of these

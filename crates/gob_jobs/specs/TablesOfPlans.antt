@@ -28,7 +28,8 @@ use Rattle.gob_props.specs.declared.fault.PropsFault.TheVariants.{BadEscape}
 use Rattle.gob_props.specs.Properties.{properties_of}
 use Rattle.gob_meaning.specs.Job.{Job, plain_plan, plain_pipeline}
 use Rattle.gob_jobs.specs.Pipelines.{settings_in}
-use Rattle.gob_jobs.specs.Reading.{JobFault, missing, bad_value, bad_policy_count, no_column, bad_kind, interpolation, job_of, job_in_file, unknown_keys}
+use Rattle.gob_jobs.specs.Reading.{JobFault, missing, bad_value, bad_policy_count, no_column, bad_kind, interpolation}
+use Rattle.gob_jobs.specs.Reading.{job_of, job_in_file, unknown_keys}
 use Rattle.gob_jobs.specs.Plans.{plan_of}
 use Rattle.gob_jobs.specs.Samples.{AllRead, AllAre, column, test, fault_in, plan_in, is_at}
 use Rattle.gob_jobs.specs.TablesOfKeys.{full_plan, full_pipeline, each_entry}
@@ -71,7 +72,8 @@ FullText = plan_of full_pipeline ≡ Some (record full_plan { skip_errors = 1844
 abbrev with_lines : String → List ℕ
 with_lines text = codes "source.format=lines\nwriter.format=csv\n" ++ codes text
 
--- whether a text tells a plan: other keys have no effect, the last of equal keys counts, and a key for all branches does
+-- whether a text tells a plan: other keys have no effect, the last of equal keys counts, and a key for all branches
+-- does
 abbrev pub PlansTold : Type 0
 PlansTold = AllRead (λ text. is_some (plan_of (codes "source.format=lines\nwriter.format=csv\n" ++ text))) (
     ("", true)
@@ -115,23 +117,50 @@ PlansMissing = AllRead (λ text. is_some (plan_of text)) (
 abbrev pub RefusedFiles : Type 0
 RefusedFiles = AllRead fault_in (
     ("writer.format=lines\n", Some (missing (codes "source.format")))
-    ∷ ("source.format=lines\nwriter.format=lines\nqualitychecker.row.policies=null line\n", Some (bad_policy_count (codes "qualitychecker.row.policy.types")))
-    ∷ ("source.format=csv\nsource.columns=a:int,b:int\nconverter.classes=drop a; cast a text\nwriter.format=csv\n", Some (no_column (codes "converter.classes") (codes "a")))
-    ∷ ("source.format=csv\nsource.columns=a:int\nconverter.classes=upper a\nwriter.format=csv\n", Some (bad_kind (codes "converter.classes") (codes "a")))
+    ∷ (
+      "source.format=lines\nwriter.format=lines\nqualitychecker.row.policies=null line\n",
+      Some (bad_policy_count (codes "qualitychecker.row.policy.types")),
+    )
+    ∷ (
+      "source.format=csv\nsource.columns=a:int,b:int\nconverter.classes=drop a; cast a text\nwriter.format=csv\n",
+      Some (no_column (codes "converter.classes") (codes "a")),
+    )
+    ∷ (
+      "source.format=csv\nsource.columns=a:int\nconverter.classes=upper a\nwriter.format=csv\n",
+      Some (bad_kind (codes "converter.classes") (codes "a")),
+    )
     ∷ ("source.format=lines\nwriter.format=${x}\n", Some (interpolation (codes "writer.format")))
     ∷ ("source.format=lines\nwriter.format=lines\ntask.slots=0\n", Some (bad_value (codes "task.slots")))
     ∷ ("source.class=jdbc\nsource.format=lines\nwriter.format=lines\n", Some (bad_value (codes "source.class")))
     ∷ ("source.format=lines\nsource.format = csv\nsource.columns=id:int\nsource.skip.header=true\nwriter.format=lines\n", Some (bad_kind (codes "writer.format") (codes "id")))
-    ∷ ("source.format=csv\nsource.columns=ts:int,m:text\nwriter.format=csv\nwriter.placer=day m\n", Some (bad_kind (codes "writer.placer") (codes "m")))
-    ∷ ("source.format=csv\nsource.columns=ts:int,m:text\nwriter.format=csv\nwriter.placer=day x\n", Some (no_column (codes "writer.placer") (codes "x")))
-    ∷ ("source.format=csv\nsource.columns=ts:int,m:text\nwriter.format=csv\nwriter.placer=hour ts\n", Some (bad_value (codes "writer.placer")))
+    ∷ (
+      "source.format=csv\nsource.columns=ts:int,m:text\nwriter.format=csv\nwriter.placer=day m\n",
+      Some (bad_kind (codes "writer.placer") (codes "m")),
+    )
+    ∷ (
+      "source.format=csv\nsource.columns=ts:int,m:text\nwriter.format=csv\nwriter.placer=day x\n",
+      Some (no_column (codes "writer.placer") (codes "x")),
+    )
+    ∷ (
+      "source.format=csv\nsource.columns=ts:int,m:text\nwriter.format=csv\nwriter.placer=hour ts\n",
+      Some (bad_value (codes "writer.placer")),
+    )
     ∷ ("source.format=lines\nwriter.format=lines\njob.commit.scope=unit\n", Some (bad_value (codes "job.commit.scope")))
     ∷ ("job.name=$\\{x}\nsource.format=lines\nwriter.format=lines\n", Some (interpolation (codes "job.name")))
     ∷ ("source.format=lines\nwriter.format=lines\\f\n", Some (bad_value (codes "writer.format")))
     ∷ ("source.format=lines\nwriter.format=lines\\t\n", None)
-    ∷ ("source.format=csv\nsource.columns=i:int,t:text\nwriter.format=csv\nconverter.classes=upper zz; ;\n", Some (bad_value (codes "converter.classes")))
-    ∷ ("source.format=csv\nsource.columns=i:int,t:text\nwriter.format=csv\nconverter.classes=rename zz a/b\n", Some (bad_value (codes "converter.classes")))
-    ∷ ("source.format=csv\nsource.columns=i:int,t:text\nwriter.format=csv\nconverter.classes=keep t zz t\n", Some (no_column (codes "converter.classes") (codes "zz")))
+    ∷ (
+      "source.format=csv\nsource.columns=i:int,t:text\nwriter.format=csv\nconverter.classes=upper zz; ;\n",
+      Some (bad_value (codes "converter.classes")),
+    )
+    ∷ (
+      "source.format=csv\nsource.columns=i:int,t:text\nwriter.format=csv\nconverter.classes=rename zz a/b\n",
+      Some (bad_value (codes "converter.classes")),
+    )
+    ∷ (
+      "source.format=csv\nsource.columns=i:int,t:text\nwriter.format=csv\nconverter.classes=keep t zz t\n",
+      Some (no_column (codes "converter.classes") (codes "zz")),
+    )
     ∷ ("source.format=csv\nsource.columns=i:int,t:text\nwriter.format=csv\nconverter.classes=explode t %3B;where like t a%2A\n", None)
     ∷ [])
 
@@ -171,7 +200,11 @@ WebTier = job_in_file (codes "clicks") web_tier ≡ Ok (Ok (record {
     };
     branches = record {
       steps = step.Keep (codes "status" ∷ codes "path" ∷ []) ∷ [];
-      policies = record { test = test false "status" (check.Compare how.Lt (value.Int (pos 500))); mode = mode.Optional } ∷ [];
+      policies = record {
+        test = test false "status" (check.Compare how.Lt (value.Int (pos 500)));
+        mode =
+            mode.Optional;
+      } ∷ [];
       format = format.Csv;
       place = place.Plain;
     } ∷ record { steps = []; policies = []; format = format.Json; place = place.Plain } ∷ [];
@@ -187,7 +220,8 @@ WebTier = job_in_file (codes "clicks") web_tier ≡ Ok (Ok (record {
 
 -- its one key that isn't known
 abbrev pub WebTierUnknown : Type 0
-WebTierUnknown = option_map unknown_keys (result_ok (properties_of web_tier)) ≡ Some (codes "data.publisher.final.dir" ∷ [])
+WebTierUnknown = option_map unknown_keys (result_ok (properties_of web_tier)) ≡ Some
+    (codes "data.publisher.final.dir" ∷ [])
 
 -- scores into two formats, in turns of three
 abbrev pub Scores : Type 0
@@ -223,7 +257,8 @@ Scores = option_map {U = Plan × TurnRules} (λ (j : Job). (j.plan, j.turns)) (r
         };
         branches = record {
           steps = [];
-          policies = record { test = test true "score" (check.Compare how.Eq (value.Int (pos 9))); mode = mode.ErrFile } ∷ [];
+          policies = record { test = test true "score" (check.Compare how.Eq (value.Int (pos 9))); mode = mode.ErrFile }
+              ∷ [];
           format = format.Csv;
           place = place.Plain;
         } ∷ record { steps = []; policies = []; format = format.Json; place = place.Plain } ∷ [];

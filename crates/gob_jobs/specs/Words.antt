@@ -1,5 +1,6 @@
 -- How a value of a job file is cut: what is taken off its ends, the elements of a list, the words of an element.
-use Rattle.std.specs.Prelude.{ℕ, ◌^◌, Bool, true, false, ◌&&◌, ◌||◌, not, nat_eq, nat_le, if◌then◌else◌, List, [], ◌∷◌, length, map, filter, codes}
+use Rattle.std.specs.Prelude.{ℕ, ◌^◌, Bool, true, false, ◌&&◌, ◌||◌, not, nat_eq, nat_le, if◌then◌else◌, List, [], ◌∷◌}
+use Rattle.std.specs.Prelude.{length, map, filter, codes}
 use Rattle.std.specs.declared.option.Option.{Option}
 use Rattle.std.specs.declared.option.Option.TheVariants.{None, Some}
 use Rattle.std.specs.declared.result.Result.{Result}
@@ -87,7 +88,8 @@ is_empty (x ∷ xs) = false
 -- the elements of a list with this separator: an empty value has none, and no element may be empty
 unfoldable pub elements : ℕ → List ℕ → Option (List (List ℕ))
 elements separator [] = Some []
-elements separator (b ∷ bs) = only_if (λ es. not (list_any is_empty es)) (map trimmed (pieces (nat_eq separator) (b ∷ bs)))
+elements separator (b ∷ bs) = only_if (λ es. not (list_any is_empty es))
+    (map trimmed (pieces (nat_eq separator) (b ∷ bs)))
 
 -- the elements, where they are at most so many
 abbrev pub few_elements : ℕ → ℕ → List ℕ → Option (List (List ℕ))

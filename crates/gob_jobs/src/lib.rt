@@ -1,4 +1,5 @@
-//! What a job file reads as: its keys, their values, and the plan that a pipeline text stands for. No function works here.
+//! What a job file reads as: its keys, their values, and the plan that a pipeline text stands for. No function works
+//! here.
 //! Each function states a law about these definitions; it takes nothing and does nothing.
 #![tactic(auto)]
 

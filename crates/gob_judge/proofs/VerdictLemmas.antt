@@ -1,5 +1,6 @@
 -- Names up to their first slash, policies that are tried one after the other, and flags in place of verdicts.
-use Rattle.std.proofs.Common.{◌≡◌, ◌≢◌, ℕ, suc, ◌<◌, Bool, true, false, cond, not, ◌&&◌, ◌||◌, List, [], ◌∷◌, ◌++◌, length, map, get_or, Some, None, option_map, refl, ap, ◌∙◌, arith}
+use Rattle.std.proofs.Common.{◌≡◌, ◌≢◌, ℕ, suc, ◌<◌, Bool, true, false, cond, not, ◌&&◌, ◌||◌, List, [], ◌∷◌, ◌++◌}
+use Rattle.std.proofs.Common.{length, map, get_or, Some, None, option_map, refl, ap, ◌∙◌, arith}
 use Rattle.std.proofs.lemmas.Bool.{ne_eqb}
 use Rattle.std.specs.List.{list_all, list_any}
 use Rattle.gob_plan.specs.declared.plan.CommitPolicy.TheVariants.{Full, Successful}
@@ -8,10 +9,12 @@ use Rattle.gob_ledger.specs.Groups.{before_slash}
 use Rattle.gob_ledger.specs.Next.{is_good}
 use Rattle.gob_judge.specs.Verdicts.{AllowedIsTheLedgers}
 
-pub before_first_slash : (xs ys : List ℕ) → ((i : ℕ) → i < length xs → get_or xs i 0 ≢ 47) → before_slash (xs ++ 47 ∷ ys) ≡ Some xs
+pub before_first_slash : (xs ys : List ℕ) → ((i : ℕ) → i < length xs → get_or xs i 0 ≢ 47)
+    → before_slash (xs ++ 47 ∷ ys) ≡ Some xs
 before_first_slash [] ys free = refl
 before_first_slash (x ∷ xs) ys free =
-    ap (λ b. cond b (Some []) (option_map (λ front. x ∷ front) (before_slash (xs ++ 47 ∷ ys)))) (ne_eqb x 47 (free 0 (omega arith)))
+    ap (λ b. cond b (Some []) (option_map (λ front. x ∷ front) (before_slash (xs ++ 47 ∷ ys))))
+    (ne_eqb x 47 (free 0 (omega arith)))
     ∙ ap (option_map (λ front. x ∷ front)) (before_first_slash xs ys (λ i less. free (suc i) (omega (arith, less))))
 
 pub before_no_slash : (xs : List ℕ) → ((i : ℕ) → i < length xs → get_or xs i 0 ≢ 47) → before_slash xs ≡ None

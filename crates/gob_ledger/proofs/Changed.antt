@@ -1,5 +1,7 @@
 -- What the change to the next state writes over what is kept keeps that state behind it.
-use Rattle.std.proofs.Common.{◌≡◌, ◌≢◌, ◌⊎◌, inl, inr, ⊎_elim, ℕ, ◌+◌, ◌^◌, ◌<◌, Bool, true, false, cond, ◌||◌, nat_eq, nat_le, List, [], ◌∷◌, ◌++◌, map, length, refl, sym, ap, subst, ◌∙◌, Some, None, option_map, arith}
+use Rattle.std.proofs.Common.{◌≡◌, ◌≢◌, ◌⊎◌, inl, inr, ⊎_elim, ℕ, ◌+◌, ◌^◌, ◌<◌, Bool, true, false, cond, ◌||◌, nat_eq}
+use Rattle.std.proofs.Common.{nat_le, List, [], ◌∷◌, ◌++◌, map, length, refl, sym, ap, subst, ◌∙◌, Some, None}
+use Rattle.std.proofs.Common.{option_map, arith}
 use Rattle.std.specs.List.{Contains}
 use Rattle.std.specs.Str.{bytes_eq}
 use Rattle.std.proofs.lemmas.Bool.{or_right, true≢false}
@@ -8,7 +10,9 @@ use Rattle.gob_bytes.specs.Paths.{begins_with, state_name, delta_folder, delta_n
 use Rattle.gob_device.specs.Disk.{Files, contents_at}
 use Rattle.gob_ledger.specs.State.{State}
 use Rattle.gob_ledger.specs.Spelling.{Version, version_1, version_2, version_number, Proper}
-use Rattle.gob_ledger.specs.Delta.{Kept, Keeps, ProperKept, EachLeads, Change, change_of, delta_at, delta_spelling, earlier_changes, base_alone, last_state, small_change, state_of, wants_whole, whole_change}
+use Rattle.gob_ledger.specs.Delta.{Kept, Keeps, ProperKept, EachLeads, Change, change_of, delta_at, delta_spelling}
+use Rattle.gob_ledger.specs.Delta.{earlier_changes, base_alone, last_state, small_change, state_of, wants_whole}
+use Rattle.gob_ledger.specs.Delta.{whole_change}
 use Rattle.gob_ledger.specs.SpellingLaws.{HasChanged, ChangeKeepsNext}
 use Rattle.gob_ledger.proofs.Deciding.{same_text, is_member}
 use Rattle.gob_ledger.proofs.DeltaNames.{change_below, state_not_below, same_number_named}

@@ -1,5 +1,6 @@
 -- Whether a text is the change from a state to another can be told.
-use Rattle.std.proofs.Common.{◌≡◌, ◌⊎◌, inl, inr, ⊎_elim, ℕ, ◌+◌, ◌≤◌, Bool, true, false, cond, List, [], ◌∷◌, ◌++◌, length, refl, sym, ap, subst, ◌∙◌, Some, None, unwrap_or, arith}
+use Rattle.std.proofs.Common.{◌≡◌, ◌⊎◌, inl, inr, ⊎_elim, ℕ, ◌+◌, ◌≤◌, Bool, true, false, cond, List, [], ◌∷◌, ◌++◌}
+use Rattle.std.proofs.Common.{length, refl, sym, ap, subst, ◌∙◌, Some, None, unwrap_or, arith}
 use Rattle.std.specs.declared.option.Option.{Option}
 use Rattle.std.specs.List.{Contains}
 use Rattle.std.specs.Str.{bytes_eq}
@@ -9,8 +10,10 @@ use Rattle.gob_ledger.specs.Marks.{Marks, Done, Span}
 use Rattle.gob_ledger.specs.State.{State, marks_at}
 use Rattle.gob_ledger.specs.Next.{no_marks}
 use Rattle.gob_ledger.specs.Spelling.{Proper, Version, version_1, version_2}
-use Rattle.gob_ledger.specs.Delta.{MarksFollow, StateFollows, KeepsPipelines, LeadsTo, ReadsAsChange, marks_or_none, delta_spelling}
-use Rattle.gob_ledger.proofs.Deciding.{Decidable, like, both, either, always, same_number, not_above, same_text, same_list, each_member, some_member, is_member}
+use Rattle.gob_ledger.specs.Delta.{MarksFollow, StateFollows, KeepsPipelines, LeadsTo, ReadsAsChange, marks_or_none}
+use Rattle.gob_ledger.specs.Delta.{delta_spelling}
+use Rattle.gob_ledger.proofs.Deciding.{Decidable, like, both, either, always, same_number, not_above, same_text}
+use Rattle.gob_ledger.proofs.Deciding.{same_list, each_member, some_member, is_member}
 use Rattle.gob_ledger.proofs.DecidingState.{is_proper, if_told, if_told_is, if_told_all}
 use Rattle.gob_ledger.proofs.Members.{none_in, in_cases}
 use Rattle.gob_ledger.proofs.ReadingChange.{led_to, led_to_is}

@@ -1,5 +1,6 @@
 -- Whether a state can be kept can be told, and so can what a text reads as.
-use Rattle.std.proofs.Common.{◌≡◌, ◌⊎◌, inl, inr, ⊎_elim, ℕ, ◌+◌, ◌^◌, ◌<◌, ◌≤◌, cond, nat_lt, List, [], ◌∷◌, length, All, codes, refl, sym, ap, subst, ◌∙◌, Some, None, arith}
+use Rattle.std.proofs.Common.{◌≡◌, ◌⊎◌, inl, inr, ⊎_elim, ℕ, ◌+◌, ◌^◌, ◌<◌, ◌≤◌, cond, nat_lt, List, [], ◌∷◌, length}
+use Rattle.std.proofs.Common.{All, codes, refl, sym, ap, subst, ◌∙◌, Some, None, arith}
 use Rattle.std.specs.declared.option.Option.{Option}
 use Rattle.std.specs.List.{Contains, IsDistinct, flat_map}
 use Rattle.std.specs.Option.{option_and_then}
@@ -12,10 +13,12 @@ use Rattle.gob_plan.specs.declared.units.BranchCounts.{BranchCounts}
 use Rattle.gob_plan.specs.declared.units.Counts.{Counts}
 use Rattle.gob_ledger.specs.Marks.{Marks, Done, Span, times_covered, done_spans, InOrder, Tiled}
 use Rattle.gob_ledger.specs.State.{State, marks_at, TiledState}
-use Rattle.gob_ledger.specs.Spelling.{Small, SmallBranch, SmallCounts, ProperPart, Proper, Version, version_1, version_2, FitsVersion, ReadsAs, state_spelling, IsKeptPipeline}
+use Rattle.gob_ledger.specs.Spelling.{Small, SmallBranch, SmallCounts, ProperPart, Proper, Version, version_1}
+use Rattle.gob_ledger.specs.Spelling.{version_2, FitsVersion, ReadsAs, state_spelling, IsKeptPipeline}
 use Rattle.gob_jobs.specs.Pipelines.{is_key, IsSetting, setting_line}
 use Rattle.gob_ledger.specs.SpellingLaws.{WrittenReadsBack}
-use Rattle.gob_ledger.proofs.Deciding.{Decidable, like, both, then, refuted, always, same_number, lower, not_above, is_true, same_text, is_less, every, distinct, each_member, each_below}
+use Rattle.gob_ledger.proofs.Deciding.{Decidable, like, both, then, refuted, always, same_number, lower, not_above}
+use Rattle.gob_ledger.proofs.Deciding.{is_true, same_text, is_less, every, distinct, each_member, each_below}
 use Rattle.gob_ledger.proofs.Members.{none_in, in_cases}
 use Rattle.gob_ledger.proofs.Merging.{times_none}
 use Rattle.gob_ledger.proofs.Ranges.{times, covered-is, within}
@@ -157,7 +160,8 @@ tiled_state s order = like
 abbrev ProperAsPairs : State → Type 0
 ProperAsPairs s =
     Small s.run ×
-    (All IsKeptPipeline s.pipelines × (Small (length s.pipelines) × (IsDistinct bytes_eq s.pipelines × (SmallCounts s.totals
+    (All IsKeptPipeline s.pipelines × (Small (length s.pipelines)
+    × (IsDistinct bytes_eq s.pipelines × (SmallCounts s.totals
     × (((1 ≤ length s.totals.branches) × (length s.totals.branches ≤ 8)) × (IsInByteOrder (names_of s.parts)
     × (((part : List ℕ) (m : Marks) → marks_at s part ≡ Some m → ProperPart part m) × TiledState s)))))))
 

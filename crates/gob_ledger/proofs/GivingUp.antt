@@ -73,7 +73,8 @@ bytes_no_fault plan u bytes = elim u.listed as
         (cond b (verdict_by_policies plan (counts_of plan (unit_fold plan u.lo bytes))
         (first_failing (enumerate_from 0 plan.task_policies) (counts_of plan (unit_fold plan u.lo bytes))))
         (failed Torn)) ≡ false) [
-          | true ↦ ruled (first_failing (enumerate_from 0 plan.task_policies) (counts_of plan (unit_fold plan u.lo bytes)))
+          | true ↦ ruled (first_failing (enumerate_from 0 plan.task_policies)
+              (counts_of plan (unit_fold plan u.lo bytes)))
           | false ↦ refl
         ]
     stopped (Some c) none = none

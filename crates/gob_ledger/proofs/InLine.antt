@@ -1,5 +1,6 @@
 -- The ranges of a partition by their offsets: they tile it exactly where each begins at the end of the one before.
-use Rattle.std.proofs.Common.{◌≡◌, ◌⊎◌, inl, inr, ⊎_elim, ℕ, ◌+◌, ◌-◌, ◌<◌, ◌≤◌, Bool, true, false, cond, ◌&&◌, nat_lt, nat_le, List, [], ◌∷◌, map, refl, sym, ap, ◌∙◌, arith}
+use Rattle.std.proofs.Common.{◌≡◌, ◌⊎◌, inl, inr, ⊎_elim, ℕ, ◌+◌, ◌-◌, ◌<◌, ◌≤◌, Bool, true, false, cond, ◌&&◌, nat_lt}
+use Rattle.std.proofs.Common.{nat_le, List, [], ◌∷◌, map, refl, sym, ap, ◌∙◌, arith}
 use Rattle.std.specs.List.{AllByRecursion}
 use Rattle.std.proofs.lemmas.Bool.{and_from, and_parts, cases_lt, le-leb, le-ltb, leb-true, lt-leb, lt-ltb}
 use Rattle.gob_ledger.specs.Marks.{Marks, Done, Span, done_spans, InOrder, Tiled}
@@ -7,7 +8,8 @@ use Rattle.gob_ledger.proofs.Members.{map_in}
 use Rattle.gob_ledger.proofs.Merging.{starts_apart}
 use Rattle.gob_ledger.proofs.Ranges.{one_in, times, covered-is, inside, order_from, order_members}
 use Rattle.gob_ledger.proofs.Reading.{gathered}
-use Rattle.gob_ledger.proofs.StateLines.{from_members, Range, lo_of, mixed, mixed_each, mixed_rises, put_range, rises_from}
+use Rattle.gob_ledger.proofs.StateLines.{from_members, Range, lo_of, mixed, mixed_each, mixed_rises, put_range}
+use Rattle.gob_ledger.proofs.StateLines.{rises_from}
 
 abbrev pub span_in : Range → Span
 span_in (inl d) = d.span

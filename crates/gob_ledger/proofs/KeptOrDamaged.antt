@@ -1,5 +1,6 @@
 -- A map whose changes are listed keeps one thing, or has a name to blame.
-use Rattle.std.proofs.Common.{◌≡◌, ◌⊎◌, inl, inr, ⊎_elim, ℕ, true, List, [], ◌∷◌, ◌++◌, refl, sym, ap, subst, ◌∙◌, Some, None, option_map, is_some}
+use Rattle.std.proofs.Common.{◌≡◌, ◌⊎◌, inl, inr, ⊎_elim, ℕ, true, List, [], ◌∷◌, ◌++◌, refl, sym, ap, subst, ◌∙◌, Some}
+use Rattle.std.proofs.Common.{None, option_map, is_some}
 use Rattle.std.specs.declared.cmp.Ordering.TheVariants.{Less}
 use Rattle.std.specs.declared.option.Option.{Option}
 use Rattle.std.specs.List.{Contains}
@@ -10,7 +11,8 @@ use Rattle.gob_bytes.specs.Tables.{name_cmp, IsInByteOrder}
 use Rattle.gob_device.specs.Disk.{File, Files, contents_of, contents_at, IsListing}
 use Rattle.gob_ledger.specs.State.{State}
 use Rattle.gob_ledger.specs.Spelling.{Version, version_1, version_2, Proper, ReadsAs}
-use Rattle.gob_ledger.specs.Delta.{ReadsAsChange, Kept, EachLeads, delta_at, KeepsAs, LeadOn, ReadsAsNone, NoChange, StateDamaged, base, baseless, change}
+use Rattle.gob_ledger.specs.Delta.{ReadsAsChange, Kept, EachLeads, delta_at, KeepsAs, LeadOn, ReadsAsNone, NoChange}
+use Rattle.gob_ledger.specs.Delta.{StateDamaged, base, baseless, change}
 use Rattle.gob_ledger.specs.SpellingLaws.{KeptOrDamaged}
 use Rattle.gob_ledger.proofs.Deciding.{Decidable, same_text, is_member}
 use Rattle.gob_ledger.proofs.DecidingChange.{change_or_none}

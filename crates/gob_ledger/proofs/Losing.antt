@@ -1,5 +1,6 @@
 -- Nothing is lost: what isn't done is owed, or new.
-use Rattle.std.proofs.Common.{◌≡◌, ◌⊎◌, ◌↔◌, inl, inr, ⊎_elim, ℕ, ◌+◌, ◌<◌, ◌≤◌, Bool, true, false, ◌||◌, cond, is_some, nat_lt, List}
+use Rattle.std.proofs.Common.{◌≡◌, ◌⊎◌, ◌↔◌, inl, inr, ⊎_elim, ℕ, ◌+◌, ◌<◌, ◌≤◌, Bool, true, false, ◌||◌, cond, is_some}
+use Rattle.std.proofs.Common.{nat_lt, List}
 use Rattle.std.proofs.Common.{[], ◌∷◌, ◌++◌, map, length, refl, sym, ap, subst, ◌∙◌, Some, None, unwrap_or, option_map}
 use Rattle.std.proofs.Common.{arith}
 use Rattle.std.specs.declared.option.Option.{Option}
@@ -18,7 +19,8 @@ use Rattle.gob_plan.specs.declared.plan.Limits.{Limits}
 use Rattle.gob_plan.specs.declared.units.Unit.{Unit as WorkUnit}
 use Rattle.gob_ledger.specs.Marks.{Marks, Span, Done, Tiled, done_spans, has, is_done}
 use Rattle.gob_ledger.specs.State.{State, TiledState, marks_at, no_branch, no_counts}
-use Rattle.gob_ledger.specs.Units.{first_shrunk, fresh_in, is_kept, is_listed, new_units, next_of, owed_unit, owed_units, span_of, units_of}
+use Rattle.gob_ledger.specs.Units.{first_shrunk, fresh_in, is_kept, is_listed, new_units, next_of, owed_unit}
+use Rattle.gob_ledger.specs.Units.{owed_units, span_of, units_of}
 use Rattle.gob_ledger.specs.Units.{units_of_parts}
 use Rattle.gob_ledger.specs.Next.{no_marks}
 use Rattle.gob_ledger.specs.Delta.{marks_or_none}
@@ -181,7 +183,8 @@ units_bytes s held limits tiled rising order u h listed = some (units_are s held
 
 -- ---- what is held
 
-pub none_shrunk : (parts : Table Marks) (listing : Table ℕ) (e : List ℕ × ℕ) → first_shrunk parts listing ≡ None → Contains listing e → next_of parts e.0 ≤ e.1
+pub none_shrunk : (parts : Table Marks) (listing : Table ℕ) (e : List ℕ × ℕ) → first_shrunk parts listing ≡ None
+    → Contains listing e → next_of parts e.0 ≤ e.1
 none_shrunk parts [] e none h = none_in e h
 none_shrunk parts (d ∷ ds) e none h = cases (nat_lt d.1 (next_of parts d.0)) refl none (none_shrunk parts ds e)
   where

@@ -1,14 +1,17 @@
 -- A change put over the ranges before it gives the ranges after it, and no others.
-use Rattle.std.proofs.Common.{◌≡◌, ◌⊎◌, inl, inr, ⊎_elim, ℕ, ◌+◌, ◌<◌, ◌≤◌, Bool, true, false, cond, not, nat_eq, List, [], ◌∷◌, ◌++◌, map, length, refl, sym, ap, subst, ◌∙◌, append-nil, arith}
+use Rattle.std.proofs.Common.{◌≡◌, ◌⊎◌, inl, inr, ⊎_elim, ℕ, ◌+◌, ◌<◌, ◌≤◌, Bool, true, false, cond, not, nat_eq, List}
+use Rattle.std.proofs.Common.{[], ◌∷◌, ◌++◌, map, length, refl, sym, ap, subst, ◌∙◌, append-nil, arith}
 use Rattle.std.specs.List.{Contains, filter, list_any}
-use Rattle.std.proofs.lemmas.Bool.{cases_Bool, cases_lt, cond-true, and_parts, and_from, or_cases, or_left, or_right, eq-eqb, eqb-true, lt-ltb, le-ltb, not-true, not_from_false, true≢false}
+use Rattle.std.proofs.lemmas.Bool.{cases_Bool, cases_lt, cond-true, and_parts, and_from, or_cases, or_left, or_right}
+use Rattle.std.proofs.lemmas.Bool.{eq-eqb, eqb-true, lt-ltb, le-ltb, not-true, not_from_false, true≢false}
 use Rattle.std.proofs.lemmas.List.Elements.{Contains-append_left, Contains-append_right, Contains-append_cases}
 use Rattle.gob_ledger.specs.Marks.{Marks, Done, Span, has, times_covered, done_spans, InOrder, Tiled}
 use Rattle.gob_ledger.specs.Units.{same_span}
 use Rattle.gob_ledger.specs.Next.{insert_done}
 use Rattle.gob_ledger.specs.Delta.{MarksFollow, same_done, changed_marks}
 use Rattle.gob_ledger.proofs.Members.{none_in, first_in, later_in, in_cases, in_filter, filter_in, in_map, map_in}
-use Rattle.gob_ledger.proofs.Ranges.{times, inside, within, order_from, order_members, order_filter, order_insert, owed_below, owed_free, times_some, span_is, same_itself}
+use Rattle.gob_ledger.proofs.Ranges.{times, inside, within, order_from, order_members, order_filter, order_insert}
+use Rattle.gob_ledger.proofs.Ranges.{owed_below, owed_free, times_some, span_is, same_itself}
 use Rattle.gob_ledger.proofs.Tiling.{in_insert, insert_in}
 
 -- ---- tests over lists

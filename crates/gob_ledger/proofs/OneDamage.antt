@@ -1,5 +1,6 @@
 -- A damaged map keeps nothing that can be read, and one name is to blame.
-use Rattle.std.proofs.Common.{◌≡◌, ⊎_elim, ℕ, Bool, true, false, cond, List, [], ◌∷◌, ◌++◌, refl, sym, ap, subst, ◌∙◌, Some, None, option_map}
+use Rattle.std.proofs.Common.{◌≡◌, ⊎_elim, ℕ, Bool, true, false, cond, List, [], ◌∷◌, ◌++◌, refl, sym, ap, subst, ◌∙◌}
+use Rattle.std.proofs.Common.{Some, None, option_map}
 use Rattle.std.specs.declared.cmp.Ordering.TheVariants.{Less}
 use Rattle.std.specs.declared.option.Option.{Option}
 use Rattle.std.specs.List.{Contains}
@@ -11,7 +12,8 @@ use Rattle.gob_bytes.specs.Tables.{name_cmp, IsInByteOrder}
 use Rattle.gob_device.specs.Disk.{File, Files, contents_of, contents_at, IsListing}
 use Rattle.gob_ledger.specs.State.{State}
 use Rattle.gob_ledger.specs.Spelling.{Version, Proper, ReadsAs, state_spelling}
-use Rattle.gob_ledger.specs.Delta.{ReadsAsChange, delta_spelling, Kept, EachLeads, delta_at, Keeps, KeepsAs, LeadOn, NoChange, StateDamaged, base, baseless, change}
+use Rattle.gob_ledger.specs.Delta.{ReadsAsChange, delta_spelling, Kept, EachLeads, delta_at, Keeps, KeepsAs, LeadOn}
+use Rattle.gob_ledger.specs.Delta.{NoChange, StateDamaged, base, baseless, change}
 use Rattle.gob_ledger.specs.Laws.{StateDamageIsOne}
 use Rattle.gob_ledger.proofs.Members.{none_in, first_in, later_in, in_cases}
 use Rattle.gob_ledger.proofs.DeltaNames.{change_below, change_order, name_above, not_itself_less, same_names}

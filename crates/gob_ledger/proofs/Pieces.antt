@@ -76,7 +76,8 @@ more_cuts zero more ends max lo enough = ap (λ n. cuts n ends max lo)
       where
         ended : (o : Option ℕ) → cut_end ends lo max ≡ o → o ≡ None
         ended None e = refl
-        ended (Some hi) e = let cut = cut_gives ends lo max hi e in let one = one_above lo hi ends cut.1 cut.0 in absurd (omega arith)
+        ended (Some hi) e = let cut = cut_gives ends lo max hi e in let one = one_above lo hi ends cut.1 cut.0 in
+            absurd (omega arith)
 
     no_cut : (n : ℕ) → cuts n ends max lo ≡ []
     no_cut zero = refl

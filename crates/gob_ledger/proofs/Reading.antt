@@ -1,5 +1,7 @@
 -- How a state's file and a change's file are read, part by part: what was written reads back.
-use Rattle.std.proofs.Common.{◌≡◌, inl, inr, ℕ, zero, suc, ◌+◌, ◌<◌, ◌≤◌, Bool, true, false, cond, nat_lt, nat_le, nat_eq, ◌&&◌, List, [], ◌∷◌, ◌++◌, map, length, take, drop, refl, sym, ap, ◌∙◌, Some, None, option_map, append_assoc, append-nil, All, codes, arith}
+use Rattle.std.proofs.Common.{◌≡◌, inl, inr, ℕ, zero, suc, ◌+◌, ◌<◌, ◌≤◌, Bool, true, false, cond, nat_lt, nat_le}
+use Rattle.std.proofs.Common.{nat_eq, ◌&&◌, List, [], ◌∷◌, ◌++◌, map, length, take, drop, refl, sym, ap, ◌∙◌, Some}
+use Rattle.std.proofs.Common.{None, option_map, append_assoc, append-nil, All, codes, arith}
 use Rattle.std.specs.declared.option.Option.{Option}
 use Rattle.std.specs.List.{AllByRecursion, enumerate_from, flat_map}
 use Rattle.std.specs.Fmt.{decimal}
@@ -13,13 +15,18 @@ use Rattle.gob_plan.specs.declared.units.Counts.{Counts}
 use Rattle.gob_ledger.specs.Marks.{Marks, Done, Span, InOrder}
 use Rattle.gob_ledger.specs.State.{State}
 use Rattle.gob_ledger.specs.Next.{no_marks}
-use Rattle.gob_ledger.specs.Spelling.{Small, SmallBranch, SmallCounts, Version, version_1, version_2, version_number, line_count}
+use Rattle.gob_ledger.specs.Spelling.{Small, SmallBranch, SmallCounts, Version, version_1, version_2, version_number}
+use Rattle.gob_ledger.specs.Spelling.{line_count}
 use Rattle.gob_jobs.specs.Pipelines.{IsSetting, setting_line}
 use Rattle.gob_ledger.proofs.WordLines.{WordLine, IsWord, AreWords, lines_text}
-use Rattle.gob_ledger.proofs.ReadingWords.{Setting, number_line, numbers_after, numbers_line_read, bytes_read, escaped_read, numbers_read, numbers_back}
+use Rattle.gob_ledger.proofs.ReadingWords.{Setting, number_line, numbers_after, numbers_line_read, bytes_read}
+use Rattle.gob_ledger.proofs.ReadingWords.{escaped_read, numbers_read, numbers_back}
 use Rattle.gob_ledger.proofs.Members.{map_in}
 use Rattle.gob_ledger.proofs.Ranges.{order_members}
-use Rattle.gob_ledger.proofs.StateLines.{from_members, setting_words, settings_in, settings_back, HasLines, pipeline_lines, lines_of, pipelines_lines, branch_words, totals_lines, Range, range_words, put_range, mixed, mixed_each, rises_from, part_lines, RangeFits, PartFits, mixed_fits, end_line, contents_lines, ContentsFit}
+use Rattle.gob_ledger.proofs.StateLines.{from_members, setting_words, settings_in, settings_back, HasLines}
+use Rattle.gob_ledger.proofs.StateLines.{pipeline_lines, lines_of, pipelines_lines, branch_words, totals_lines, Range}
+use Rattle.gob_ledger.proofs.StateLines.{range_words, put_range, mixed, mixed_each, rises_from, part_lines, RangeFits}
+use Rattle.gob_ledger.proofs.StateLines.{PartFits, mixed_fits, end_line, contents_lines, ContentsFit}
 
 -- what the first lines read as, and the lines behind them
 abbrev pub Read : Type 0 → Type 0

@@ -1,24 +1,31 @@
 -- A change's file leads from a state to one state.
-use Rattle.std.proofs.Common.{◌≡◌, inl, inr, ℕ, ◌+◌, ◌≤◌, Bool, true, false, cond, nat_lt, List, [], ◌∷◌, ◌++◌, map, length, drop, refl, sym, ap, subst, ◌∙◌, Some, None, unwrap_or, option_map, append-nil, length-drop, codes, arith}
+use Rattle.std.proofs.Common.{◌≡◌, inl, inr, ℕ, ◌+◌, ◌≤◌, Bool, true, false, cond, nat_lt, List, [], ◌∷◌, ◌++◌, map}
+use Rattle.std.proofs.Common.{length, drop, refl, sym, ap, subst, ◌∙◌, Some, None, unwrap_or, option_map, append-nil}
+use Rattle.std.proofs.Common.{length-drop, codes, arith}
 use Rattle.std.specs.declared.option.Option.{Option}
 use Rattle.std.specs.Option.{option_and_then, option_or}
 use Rattle.std.specs.List.{AllByRecursion, Contains, filter, flat_map}
 use Rattle.std.specs.Str.{bytes_eq}
 use Rattle.std.proofs.lemmas.Bool.{ltb-false}
 use Rattle.std.proofs.lemmas.List.Elements.{recursion_from_All, All-drop}
-use Rattle.gob_bytes.proofs.Tables.{same_name, name_itself, none_below, rising_tail, rising-with_name, at-with_name, same_tables, at_from_member}
+use Rattle.gob_bytes.proofs.Tables.{same_name, name_itself, none_below, rising_tail, rising-with_name, at-with_name}
+use Rattle.gob_bytes.proofs.Tables.{same_tables, at_from_member}
 use Rattle.gob_bytes.specs.Tables.{Table, at_name, with_name, names_of, IsInByteOrder}
 use Rattle.gob_ledger.specs.Marks.{Marks, Tiled}
 use Rattle.gob_ledger.specs.State.{State, marks_at, TiledState}
 use Rattle.gob_ledger.specs.Next.{no_marks}
-use Rattle.gob_ledger.specs.Spelling.{Small, Proper, Version, version_1, version_2, FitsVersion, pipeline_part, pipelines_text, totals_text, parts_text, file_text, IsKeptPipeline}
-use Rattle.gob_ledger.specs.Delta.{OneMore, MarksFollow, StateFollows, KeepsPipelines, LeadsTo, ReadsAsChange, marks_or_none, changed_marks, changed_part, changed_parts, has_ranges, new_pipelines, delta_spelling}
+use Rattle.gob_ledger.specs.Spelling.{Small, Proper, Version, version_1, version_2, FitsVersion, pipeline_part}
+use Rattle.gob_ledger.specs.Spelling.{pipelines_text, totals_text, parts_text, file_text, IsKeptPipeline}
+use Rattle.gob_ledger.specs.Delta.{OneMore, MarksFollow, StateFollows, KeepsPipelines, LeadsTo, ReadsAsChange}
+use Rattle.gob_ledger.specs.Delta.{marks_or_none, changed_marks, changed_part, changed_parts, has_ranges, new_pipelines}
+use Rattle.gob_ledger.specs.Delta.{delta_spelling}
 use Rattle.gob_ledger.specs.Laws.{OneSpellingAChange}
 use Rattle.gob_ledger.proofs.Members.{in_filter, in_map}
 use Rattle.gob_ledger.proofs.Ranges.{tiled_none, order_filter}
 use Rattle.gob_ledger.proofs.Merging.{merged, merged_is, unchanged, filter_order, is_new, is_new_owed, starts_apart}
 use Rattle.gob_ledger.proofs.WordLines.{WordLine, lines_text, word_lines, lines_read}
-use Rattle.gob_ledger.proofs.StateLines.{from_members, mixed_rises, SpanFits, DoneFits, PartFits, ContentsFit, contents_lines, contents_text, contents_good, counted_text}
+use Rattle.gob_ledger.proofs.StateLines.{from_members, mixed_rises, SpanFits, DoneFits, PartFits, ContentsFit}
+use Rattle.gob_ledger.proofs.StateLines.{contents_lines, contents_text, contents_good, counted_text}
 use Rattle.gob_ledger.proofs.Reading.{AsMany, contents_read, contents_back}
 use Rattle.gob_ledger.proofs.ReadingState.{part_fits, have_lines, text_read_by}
 

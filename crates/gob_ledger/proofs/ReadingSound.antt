@@ -1,5 +1,7 @@
 -- What is read of a state's file or a change's was written so, line by line.
-use Rattle.std.proofs.Common.{◌≡◌, inl, inr, ℕ, zero, suc, ◌+◌, ◌<◌, ◌≤◌, true, cond, nat_lt, nat_le, nat_eq, List, [], ◌∷◌, ◌++◌, map, length, take, drop, refl, sym, ap, subst, ◌∙◌, Some, None, option_map, append_assoc, codes, arith}
+use Rattle.std.proofs.Common.{◌≡◌, inl, inr, ℕ, zero, suc, ◌+◌, ◌<◌, ◌≤◌, true, cond, nat_lt, nat_le, nat_eq, List, []}
+use Rattle.std.proofs.Common.{◌∷◌, ◌++◌, map, length, take, drop, refl, sym, ap, subst, ◌∙◌, Some, None, option_map}
+use Rattle.std.proofs.Common.{append_assoc, codes, arith}
 use Rattle.std.specs.declared.option.Option.{Option}
 use Rattle.std.specs.List.{AllByRecursion, enumerate_from, flat_map}
 use Rattle.std.specs.Fmt.{decimal}
@@ -13,11 +15,21 @@ use Rattle.gob_plan.specs.declared.units.BranchCounts.{BranchCounts}
 use Rattle.gob_plan.specs.declared.units.Counts.{Counts}
 use Rattle.gob_ledger.specs.Marks.{Marks, Done, Span}
 use Rattle.gob_ledger.specs.State.{State}
-use Rattle.gob_ledger.specs.Spelling.{IsKeptPipeline, Small, SmallBranch, SmallCounts, Version, version_1, version_2, version_number, line_count}
+use Rattle.gob_ledger.specs.Spelling.{IsKeptPipeline, Small, SmallBranch, SmallCounts, Version, version_1, version_2}
+use Rattle.gob_ledger.specs.Spelling.{version_number, line_count}
 use Rattle.gob_jobs.specs.Pipelines.{IsSetting, setting_line}
-use Rattle.gob_ledger.proofs.ReadingWords.{Setting, number_line, numbers_after, numbers_line_is, bytes_read, escaped_is, numbers_read, numbers_are}
-use Rattle.gob_ledger.proofs.StateLines.{setting_words, settings_in, settings_are, no_words, settings_counted, lines_of_settings, pipeline_lines, lines_of, pipelines_lines, branch_words, totals_lines, Range, lo_of, range_words, put_range, mixed, rises_from, part_lines, end_line, contents_lines}
-use Rattle.gob_ledger.proofs.Reading.{Read, and_then, only_number, number_after, text_of, text_of_lines, pipeline_read, with_pipeline_read, pipelines_from, pipelines_read, branch_of, with_branch, branches_from, totals_of, totals_read, done_of, open_of, range_or, range_read, named_with, name_and_next, part_read, with_range, gathered, Parts, with_part, with_line, no_more, is_end, parts_from, whole_parts, parts_read, state_with, body_read, versioned, contents_read}
+use Rattle.gob_ledger.proofs.ReadingWords.{Setting, number_line, numbers_after, numbers_line_is, bytes_read, escaped_is}
+use Rattle.gob_ledger.proofs.ReadingWords.{numbers_read, numbers_are}
+use Rattle.gob_ledger.proofs.StateLines.{setting_words, settings_in, settings_are, no_words, settings_counted}
+use Rattle.gob_ledger.proofs.StateLines.{lines_of_settings, pipeline_lines, lines_of, pipelines_lines, branch_words}
+use Rattle.gob_ledger.proofs.StateLines.{totals_lines, Range, lo_of, range_words, put_range, mixed, rises_from}
+use Rattle.gob_ledger.proofs.StateLines.{part_lines, end_line, contents_lines}
+use Rattle.gob_ledger.proofs.Reading.{Read, and_then, only_number, number_after, text_of, text_of_lines, pipeline_read}
+use Rattle.gob_ledger.proofs.Reading.{with_pipeline_read, pipelines_from, pipelines_read, branch_of, with_branch}
+use Rattle.gob_ledger.proofs.Reading.{branches_from, totals_of, totals_read, done_of, open_of, range_or, range_read}
+use Rattle.gob_ledger.proofs.Reading.{named_with, name_and_next, part_read, with_range, gathered, Parts, with_part}
+use Rattle.gob_ledger.proofs.Reading.{with_line, no_more, is_end, parts_from, whole_parts, parts_read, state_with}
+use Rattle.gob_ledger.proofs.Reading.{body_read, versioned, contents_read}
 use Rattle.gob_ledger.proofs.WordLines.{WordLine}
 
 -- what was read first, where the whole was read

@@ -1,5 +1,6 @@
 -- A state's file reads as one state.
-use Rattle.std.proofs.Common.{◌≡◌, ◌⊎◌, inl, inr, ℕ, ◌<◌, ◌≤◌, List, [], ◌∷◌, length, refl, sym, ap, subst, ◌∙◌, Some, None, codes, arith}
+use Rattle.std.proofs.Common.{◌≡◌, ◌⊎◌, inl, inr, ℕ, ◌<◌, ◌≤◌, List, [], ◌∷◌, length, refl, sym, ap, subst, ◌∙◌, Some}
+use Rattle.std.proofs.Common.{None, codes, arith}
 use Rattle.std.specs.declared.option.Option.{Option}
 use Rattle.std.specs.Option.{option_and_then}
 use Rattle.std.specs.List.{AllByRecursion, Contains}
@@ -10,13 +11,16 @@ use Rattle.gob_bytes.specs.Tables.{Table}
 use Rattle.gob_bytes.specs.Words.{numbered}
 use Rattle.gob_ledger.specs.Marks.{Marks, Done, Span, Tiled}
 use Rattle.gob_ledger.specs.State.{State, marks_at, TiledState}
-use Rattle.gob_ledger.specs.Spelling.{Small, ProperPart, Proper, Version, version_1, version_2, version_number, FitsVersion, ReadsAs, state_spelling, file_text, pipelines_text, totals_text, parts_text, IsKeptPipeline}
+use Rattle.gob_ledger.specs.Spelling.{Small, ProperPart, Proper, Version, version_1, version_2, version_number}
+use Rattle.gob_ledger.specs.Spelling.{FitsVersion, ReadsAs, state_spelling, file_text, pipelines_text, totals_text}
+use Rattle.gob_ledger.specs.Spelling.{parts_text, IsKeptPipeline}
 use Rattle.gob_ledger.specs.Laws.{OneSpellingAState}
 use Rattle.gob_ledger.proofs.Members.{map_in}
 use Rattle.gob_ledger.proofs.Ranges.{owed_below, done_below, order_members}
 use Rattle.gob_ledger.proofs.WordLines.{WordLine, lines_text, word_lines, lines_read}
 use Rattle.gob_ledger.proofs.Merging.{starts_apart}
-use Rattle.gob_ledger.proofs.StateLines.{from_members, mixed_rises, HasLines, pipeline_has_lines, IndexFits, SpanFits, DoneFits, PartFits, ContentsFit, contents_lines, contents_text, contents_good}
+use Rattle.gob_ledger.proofs.StateLines.{from_members, mixed_rises, HasLines, pipeline_has_lines, IndexFits, SpanFits}
+use Rattle.gob_ledger.proofs.StateLines.{DoneFits, PartFits, ContentsFit, contents_lines, contents_text, contents_good}
 use Rattle.gob_ledger.proofs.Reading.{AsMany, contents_read, contents_back, versioned, and_then, number_line_read}
 
 -- ---- what a proper state's file can tell

@@ -1,9 +1,12 @@
 -- What a state's file or a change's file holds, as lines of words.
-use Rattle.std.proofs.Common.{◌≡◌, ◌≢◌, ◌⊎◌, inl, inr, ⊎_elim, ℕ, suc, ◌+◌, ◌<◌, ◌≤◌, Bool, true, false, cond, ◌&&◌, nat_lt, nat_le, nat_eq, List, [], ◌∷◌, ◌++◌, map, length, All, refl, sym, ap, subst, ◌∙◌, Some, None, unwrap_or, append_assoc, codes, arith}
+use Rattle.std.proofs.Common.{◌≡◌, ◌≢◌, ◌⊎◌, inl, inr, ⊎_elim, ℕ, suc, ◌+◌, ◌<◌, ◌≤◌, Bool, true, false, cond, ◌&&◌}
+use Rattle.std.proofs.Common.{nat_lt, nat_le, nat_eq, List, [], ◌∷◌, ◌++◌, map, length, All, refl, sym, ap, subst, ◌∙◌}
+use Rattle.std.proofs.Common.{Some, None, unwrap_or, append_assoc, codes, arith}
 use Rattle.std.specs.declared.option.Option.{Option}
 use Rattle.std.specs.List.{AllByRecursion, Contains, count_by, enumerate_from, flat_map, list_all}
 use Rattle.std.specs.Fmt.{decimal}
-use Rattle.std.proofs.lemmas.Bool.{and_parts, and_from, cases_order, cond_both, eqb-true, le-leb, ltb-true, ltb-false, ne_eqb}
+use Rattle.std.proofs.lemmas.Bool.{and_parts, and_from, cases_order, cond_both, eqb-true, le-leb, ltb-true, ltb-false}
+use Rattle.std.proofs.lemmas.Bool.{ne_eqb}
 use Rattle.std.proofs.lemmas.List.Concat.{flat_map-append}
 use Rattle.std.proofs.lemmas.List.Elements.{All-head, All-tail, recursion_from_All}
 use Rattle.std.proofs.lemmas.List.Sums.{sum_by-cons}
@@ -14,12 +17,17 @@ use Rattle.gob_plan.specs.declared.units.BranchCounts.{BranchCounts}
 use Rattle.gob_plan.specs.declared.units.Counts.{Counts}
 use Rattle.gob_ledger.specs.Marks.{Marks, Done, Span, done_spans, InOrder}
 use Rattle.gob_ledger.specs.State.{State}
-use Rattle.gob_ledger.specs.Spelling.{Small, SmallBranch, SmallCounts, Version, version_1, version_2, version_number, branch_line, Placed, put_line, put_lines, made_by, done_line, open_line, range_lines, part_text, parts_text, line_count, pipeline_part, totals_text, file_text, IsKeptPipeline}
+use Rattle.gob_ledger.specs.Spelling.{Small, SmallBranch, SmallCounts, Version, version_1, version_2, version_number}
+use Rattle.gob_ledger.specs.Spelling.{branch_line, Placed, put_line, put_lines, made_by, done_line, open_line}
+use Rattle.gob_ledger.specs.Spelling.{range_lines, part_text, parts_text, line_count, pipeline_part, totals_text}
+use Rattle.gob_ledger.specs.Spelling.{file_text, IsKeptPipeline}
 use Rattle.gob_jobs.specs.Pipelines.{IsSetting, setting_line}
 use Rattle.gob_ledger.proofs.WordLines.{WordLine, IsWord, AreWords, line_bytes, lines_text, word_lines, lines_read}
 use Rattle.gob_ledger.proofs.Members.{first_in, later_in, map_in}
 use Rattle.gob_ledger.proofs.Ranges.{order_from, order_members}
-use Rattle.gob_ledger.proofs.ReadingWords.{Setting, setting_word, setting_is_word, setting_read, setting_word_read, setting_word_is, escaped_is_word, decimal_is_word, number_line, number_line_words}
+use Rattle.gob_ledger.proofs.ReadingWords.{Setting, setting_word, setting_is_word, setting_read, setting_word_read}
+use Rattle.gob_ledger.proofs.ReadingWords.{setting_word_is, escaped_is_word, decimal_is_word, number_line}
+use Rattle.gob_ledger.proofs.ReadingWords.{number_line_words}
 
 pub from_members : {X : Type 0} (P : X → Type 0) (xs : List X) → ((x : X) → Contains xs x → P x) → AllByRecursion P xs
 from_members P [] each = tt

@@ -263,7 +263,11 @@ follow_all job us failing before (t ∷ ts) f = ap (units_left job.max_retries u
 
 pub scheduled_follow : (job : Job) (us : List ListedUnit) (failing : List ℕ) (ts : List TakenTurn)
     → Follow job us failing [] ts → AreScheduled job us failing ts
-scheduled_follow job us failing ts f = record { each = follow_each job us failing [] ts f; all = follow_all job us failing [] ts f }
+scheduled_follow job us failing ts f = record {
+  each = follow_each job us failing [] ts f;
+  all =
+      follow_all job us failing [] ts f;
+}
 
 -- ---- before the first turn
 
@@ -370,7 +374,13 @@ all_wait job held n (w ∷ ws) = cases w.listed (all_wait job held (n + 1) ws)
         (cond b ((n, w) ∷ filter (λ (e : ℕ × WorkUnit). e.1.listed) (enumerate_from (n + 1) ws))
         (filter (λ (e : ℕ × WorkUnit). e.1.listed) (enumerate_from (n + 1) ws))))
     cases true later = ap
-        (λ (vs : List Waiting). record { unit = n; all = own_pulls job held w; left = own_pulls job held w; failures = 0 } ∷ vs) later
+        (λ (vs : List Waiting). record {
+          unit = n;
+          all = own_pulls job held w;
+          left = own_pulls job held w;
+          failures =
+              0;
+        } ∷ vs) later
     cases false later = later
 
 none_ended : (retries : ℕ) (us : List ListedUnit) → AllHavePulls us → units_left retries us [] ≡ us

@@ -18,7 +18,9 @@ use Rattle.gob_ledger.specs.Turns.{own_pulls, turns_of, verdicts_of}
 use Rattle.gob_ledger.specs.WorkedRuns.{WorkedRuns}
 
 pub worked : WorkedRuns
-unfolding is_utf8 chars lib.Utf8.encode escaped lines_from bytes_from test_holds unit_fold counts_of stop_of picks place_of line_rows record_of made_in_branch line_made ruling warnings_of verdict_of sum_of units_of_parts next_state own_pulls turns_of verdicts_of
+unfolding is_utf8 chars lib.Utf8.encode escaped lines_from bytes_from test_holds unit_fold counts_of stop_of picks
+    place_of line_rows record_of made_in_branch line_made ruling warnings_of verdict_of sum_of units_of_parts next_state
+    own_pulls turns_of verdicts_of
 worked = record {
   plain = record { its_units = refl; its_pulls = refl; its_verdicts = refl; its_state = refl };
   nothing_held = record { its_units = refl; its_pulls = refl; its_verdicts = refl; its_state = refl };

@@ -24,10 +24,21 @@ of_marks : WorkedMarks
 of_marks = record { owed = refl; first_owed = refl; finished = refl; inserted = refl }
 
 of_policies : WorkedPolicies
-of_policies = record { goods = refl; all_good = refl; one_fails = refl; the_failed = refl; allowed = refl; counted = refl; by_scope = refl; by_job = refl }
+of_policies = record {
+  goods = refl;
+  all_good = refl;
+  one_fails = refl;
+  the_failed = refl;
+  allowed = refl;
+  counted =
+      refl;
+  by_scope = refl;
+  by_job = refl;
+}
 
 of_totals : WorkedTotals
-unfolding is_utf8 chars lib.Utf8.encode lines_from bytes_from test_holds unit_fold counts_of stop_of picks place_of line_rows record_of made_in_branch line_made ruling on_literals sum_of next_state counted_in
+unfolding is_utf8 chars lib.Utf8.encode lines_from bytes_from test_holds unit_fold counts_of stop_of picks place_of
+    line_rows record_of made_in_branch line_made ruling on_literals sum_of next_state counted_in
 of_totals = record {
   empty = refl;
   proper = (empty_proper 1 (omega arith) (omega arith), empty_proper 8 (omega arith) (omega arith));

@@ -13,7 +13,15 @@ use Rattle.gob_ledger.specs.Turns.{own_pulls, turns_of}
 use Rattle.gob_ledger.specs.WorkedTurns.{WorkedSchedule, WorkedTurn, WorkedTurnLists, WorkedTurns}
 
 of_schedule : WorkedSchedule
-of_schedule = record { two_active = refl; all_active = refl; one_left = refl; none_left = refl; places = refl; places_of_two = refl }
+of_schedule = record {
+  two_active = refl;
+  all_active = refl;
+  one_left = refl;
+  none_left = refl;
+  places =
+      refl;
+  places_of_two = refl;
+}
 
 of_turn : WorkedTurn
 of_turn = record {
@@ -32,7 +40,8 @@ of_turn = record {
 }
 
 of_lists : WorkedTurnLists
-unfolding is_utf8 chars lib.Utf8.encode lines_from bytes_from test_holds unit_fold stop_of picks place_of line_rows record_of made_in_branch line_made ruling own_pulls turns_of
+unfolding is_utf8 chars lib.Utf8.encode lines_from bytes_from test_holds unit_fold stop_of picks place_of line_rows
+    record_of made_in_branch line_made ruling own_pulls turns_of
 of_lists = record {
   with_a_failure = refl;
   given_up = refl;

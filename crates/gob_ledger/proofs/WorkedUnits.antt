@@ -45,7 +45,12 @@ of_ranges = record {
   overlapping = λ o. absurd (omega (arith, o.2.0));
   empty = λ o. absurd (omega (arith, o.1));
   watermark = record { below = below_two; here = refl };
-  tiled = record { finished = (omega arith, omega arith, (omega arith, omega arith, tt)); owed = (omega arith, omega arith, tt); once = once };
+  tiled = record {
+    finished = (omega arith, omega arith, (omega arith, omega arith, tt));
+    owed =
+        (omega arith, omega arith, tt);
+    once = once;
+  };
 }
 
 of_cuts : WorkedCuts
@@ -53,7 +58,16 @@ of_cuts = record { from_start = refl; from_an_end = refl; from_behind = refl; in
 
 of_partitions : WorkedPartitions
 unfolding escaped percent_encode_byte
-of_partitions = record { short = refl; kept = refl; too_long_names = refl; listed = refl; next = refl; shrunk = refl; ranges = refl }
+of_partitions = record {
+  short = refl;
+  kept = refl;
+  too_long_names = refl;
+  listed = refl;
+  next = refl;
+  shrunk =
+      refl;
+  ranges = refl;
+}
 
 of_order : WorkedOrder
 unfolding units_of_parts escaped percent_encode_byte lines_from

@@ -1,5 +1,6 @@
 -- What a commit changes, how the change is spelled, and the states that changes lead to.
-use Rattle.std.specs.Prelude.{◌≡◌, ◌⊎◌, ℕ, ◌+◌, ◌-◌, ◌^◌, ◌≤◌, Bool, true, cond, not, ◌&&◌, ◌||◌, nat_eq, nat_le, nat_lt, List, [], ◌∷◌, ◌++◌, map, length, drop, codes}
+use Rattle.std.specs.Prelude.{◌≡◌, ◌⊎◌, ℕ, ◌+◌, ◌-◌, ◌^◌, ◌≤◌, Bool, true, cond, not, ◌&&◌, ◌||◌, nat_eq, nat_le}
+use Rattle.std.specs.Prelude.{nat_lt, List, [], ◌∷◌, ◌++◌, map, length, drop, codes}
 use Rattle.std.specs.declared.option.Option.{Option}
 use Rattle.std.specs.declared.option.Option.TheVariants.{None, Some}
 use Rattle.std.specs.List.{Contains, filter, list_any, range_with_len}
@@ -12,7 +13,8 @@ use Rattle.gob_ledger.specs.Marks.{Marks, Span, Done}
 use Rattle.gob_ledger.specs.State.{State, marks_at}
 use Rattle.gob_ledger.specs.Units.{same_span}
 use Rattle.gob_ledger.specs.Next.{no_marks}
-use Rattle.gob_ledger.specs.Spelling.{Version, version_1, version_2, version_number, FitsVersion, Proper, ReadsAs, state_spelling, file_text, pipelines_text, totals_text, parts_text}
+use Rattle.gob_ledger.specs.Spelling.{Version, version_1, version_2, version_number, FitsVersion, Proper, ReadsAs}
+use Rattle.gob_ledger.specs.Spelling.{state_spelling, file_text, pipelines_text, totals_text, parts_text}
 
 -- ---- a state that may come after another
 

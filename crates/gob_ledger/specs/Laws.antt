@@ -21,7 +21,8 @@ use Rattle.gob_ledger.specs.Next.{Judged, allowed_units, counts_in, next_state}
 use Rattle.gob_ledger.specs.Archive.{Agrees, Grows, LiesOnLines, IsWithin}
 use Rattle.gob_ledger.specs.Expected.{IsExpected, IsPublished}
 use Rattle.gob_ledger.specs.Spelling.{Small, SmallCounts, Version, Proper, ReadsAs, IsKeptPipeline}
-use Rattle.gob_ledger.specs.Delta.{StateFollows, ReadsAsChange, Kept, ProperKept, KeepsAs, StateDamaged, earlier_changes, kept_next, last_run, state_of}
+use Rattle.gob_ledger.specs.Delta.{StateFollows, ReadsAsChange, Kept, ProperKept, KeepsAs, StateDamaged}
+use Rattle.gob_ledger.specs.Delta.{earlier_changes, kept_next, last_run, state_of}
 use Rattle.gob_ledger.specs.Groups.{groups_of}
 use Rattle.gob_ledger.specs.Totals.{SameCounts, counted_in, span_counts}
 use Rattle.gob_jobs.specs.Plans.{plan_of}
@@ -111,9 +112,12 @@ pub record ProperCounts (c : Counts) : Type 0 where
 
 -- a state that can be kept is followed by one
 abbrev pub NextIsProper : Type 0
-NextIsProper = (s : State) (pipeline : List ℕ) (units : List WorkUnit) (verdicts : List Verdict) (policy : CommitPolicy) → length verdicts ≡ length units
-    → Proper s → IsKeptPipeline pipeline → Small (length (next_state s pipeline units verdicts policy).pipelines) → UnitsFit s.parts units → ((u : WorkUnit) → Contains units u → ProperUnit u)
-    → ((j : Judged) (c : Counts) → Contains (allowed_units policy (zip units verdicts)) j → counts_in j.1 ≡ Some c → ProperCounts c)
+NextIsProper = (s : State) (pipeline : List ℕ) (units : List WorkUnit) (verdicts : List Verdict) (policy : CommitPolicy)
+    → length verdicts ≡ length units
+    → Proper s → IsKeptPipeline pipeline → Small (length (next_state s pipeline units verdicts policy).pipelines)
+    → UnitsFit s.parts units → ((u : WorkUnit) → Contains units u → ProperUnit u)
+    → ((j : Judged) (c : Counts) → Contains (allowed_units policy (zip units verdicts)) j → counts_in j.1 ≡ Some c
+    → ProperCounts c)
     → Proper (next_state s pipeline units verdicts policy)
 
 -- ---- laws of changes and of groups
@@ -127,7 +131,8 @@ NextFollows = (s : State) (pipeline : List ℕ) (units : List WorkUnit) (verdict
 
 -- in each version a text is that of one state
 abbrev pub OneSpellingAState : Type 0
-OneSpellingAState = (v w : Version) (bytes : List ℕ) (s t : State) → ReadsAs v bytes s → ReadsAs w bytes t → (v ≡ w) × (s ≡ t)
+OneSpellingAState = (v w : Version) (bytes : List ℕ) (s t : State) → ReadsAs v bytes s → ReadsAs w bytes t → (v ≡ w)
+    × (s ≡ t)
 
 -- behind a state a text is the change to one state
 abbrev pub OneSpellingAChange : Type 0
@@ -173,8 +178,11 @@ OthersStillFit = (s : State) (pipeline : List ℕ) (group others : List Judged) 
 
 -- the changes that a state stands on are those with the numbers up to its run
 abbrev pub ChangesAreNumbered : Type 0
-ChangesAreNumbered = (job : List ℕ) (k : Kept) → ProperKept k → (length k.later ≤ (state_of k).run) × (map (λ t. delta_name job t.run) k.later ≡ earlier_changes job (state_of k).run (length k.later))
+ChangesAreNumbered = (job : List ℕ) (k : Kept) → ProperKept k → (length k.later ≤ (state_of k).run)
+    × (map (λ t. delta_name job t.run) k.later ≡ earlier_changes job (state_of k).run (length k.later))
 
 -- what is kept after a commit is proper where the next state is, and follows where it has to
 abbrev pub KeptNextIsProper : Type 0
-KeptNextIsProper = (k : Option Kept) (t : State) → ((l : Kept) → k ≡ Some l → ProperKept l × (t.run ≢ last_run → StateFollows (state_of l) t)) → Proper t → ProperKept (kept_next k t) × (state_of (kept_next k t) ≡ t)
+KeptNextIsProper = (k : Option Kept) (t : State) → ((l : Kept) → k ≡ Some l → ProperKept l
+    × (t.run ≢ last_run → StateFollows (state_of l) t)) → Proper t → ProperKept (kept_next k t)
+    × (state_of (kept_next k t) ≡ t)

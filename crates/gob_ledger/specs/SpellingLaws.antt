@@ -8,7 +8,8 @@ use Rattle.gob_bytes.specs.Paths.{delta_folder, keeps_state}
 use Rattle.gob_device.specs.Disk.{Files, contents_at, IsListing}
 use Rattle.gob_ledger.specs.State.{State}
 use Rattle.gob_ledger.specs.Spelling.{Version, version_1, version_2, Proper, ReadsAs, state_spelling}
-use Rattle.gob_ledger.specs.Delta.{StateFollows, ReadsAsChange, Kept, KeepsAs, StateDamaged, Change, change_of, changes_in, version_in, kept_next, last_run, state_of}
+use Rattle.gob_ledger.specs.Delta.{StateFollows, ReadsAsChange, Kept, KeepsAs, StateDamaged, Change, change_of}
+use Rattle.gob_ledger.specs.Delta.{changes_in, version_in, kept_next, last_run, state_of}
 
 -- a proper state has one text in the second version, and one in the first where it has one pipeline
 pub record SpelledOnce (s : State) : Type 0 where

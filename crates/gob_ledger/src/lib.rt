@@ -3,15 +3,24 @@
 #![tactic(auto)]
 
 ghost use Rattle.gob_ledger.specs.Examples.{WorkedExamples};
-ghost use Rattle.gob_ledger.specs.Laws.{ChangesAreNumbered, GroupsAreGrouping, GrownArchive, KeptNextIsProper, NextExpects, NextFollows, NextInOrder, NextIsProper, NextTiles, NextTotals, NextWithin, OthersStillFit, UnitsFitState, UnitsLieOnLines};
-ghost use Rattle.gob_ledger.specs.TurnLaws.{BoundsSuffice, GivingUpTakesFailures, NoFailureNoFault, OnlyListedHaveTurns, OwnPullsArePieces, TurnsAreFew, TurnsAreScheduled, UnitsPullTheirOwn};
-ghost use Rattle.gob_ledger.specs.UnitLaws.{EmptyIsProper, ListedUnitsAreHeld, NewUnitsReachTheEnd, NothingIsLost, UnitsAreOwedOrNew, UnitsAreProper, UnitsHaveBytes};
+ghost use Rattle.gob_ledger.specs.Laws.{ChangesAreNumbered, GroupsAreGrouping, GrownArchive, KeptNextIsProper};
+ghost use Rattle.gob_ledger.specs.Laws.{NextExpects, NextFollows, NextInOrder, NextIsProper, NextTiles, NextTotals};
+ghost use Rattle.gob_ledger.specs.Laws.{NextWithin, OthersStillFit, UnitsFitState, UnitsLieOnLines};
+ghost use Rattle.gob_ledger.specs.TurnLaws.{BoundsSuffice, GivingUpTakesFailures, NoFailureNoFault};
+ghost use Rattle.gob_ledger.specs.TurnLaws.{OnlyListedHaveTurns, OwnPullsArePieces, TurnsAreFew, TurnsAreScheduled};
+ghost use Rattle.gob_ledger.specs.TurnLaws.{UnitsPullTheirOwn};
+ghost use Rattle.gob_ledger.specs.UnitLaws.{EmptyIsProper, ListedUnitsAreHeld, NewUnitsReachTheEnd, NothingIsLost};
+ghost use Rattle.gob_ledger.specs.UnitLaws.{UnitsAreOwedOrNew, UnitsAreProper, UnitsHaveBytes};
 ghost use Rattle.gob_ledger.specs.WorkedRuns.{WorkedRuns};
 ghost use Rattle.gob_ledger.specs.WorkedUnits.{WorkedUnits};
 ghost use Rattle.gob_ledger.specs.WorkedTurns.{WorkedTurns};
 ghost use Rattle.gob_ledger.specs.WorkedStates.{WorkedStates};
-ghost use Rattle.gob_ledger.specs.Laws.{ChangesAreNumbered, GroupsAreGrouping, GrownArchive, KeepsOne, KeptNextIsProper, NextExpects, NextFollows, NextInOrder, NextIsProper, NextTiles, NextTotals, NextWithin, OneSpellingAChange, OneSpellingAState, OthersStillFit, StateDamageIsOne, UnitsFitState, UnitsLieOnLines};
-ghost use Rattle.gob_ledger.specs.SpellingLaws.{ChangeIsReadOrNot, ChangeKeepsNext, KeptOrDamaged, TextIsReadOrNot, WrittenReadsBack};
+ghost use Rattle.gob_ledger.specs.Laws.{ChangesAreNumbered, GroupsAreGrouping, GrownArchive, KeepsOne};
+ghost use Rattle.gob_ledger.specs.Laws.{KeptNextIsProper, NextExpects, NextFollows, NextInOrder, NextIsProper};
+ghost use Rattle.gob_ledger.specs.Laws.{NextTiles, NextTotals, NextWithin, OneSpellingAChange, OneSpellingAState};
+ghost use Rattle.gob_ledger.specs.Laws.{OthersStillFit, StateDamageIsOne, UnitsFitState, UnitsLieOnLines};
+ghost use Rattle.gob_ledger.specs.SpellingLaws.{ChangeIsReadOrNot, ChangeKeepsNext, KeptOrDamaged, TextIsReadOrNot};
+ghost use Rattle.gob_ledger.specs.SpellingLaws.{WrittenReadsBack};
 
 /// How states and changes are spelled, and what is published, by computing.
 pub fn worked_examples()
@@ -108,7 +117,8 @@ pub fn own_pulls_are_pieces()
     ensures { OwnPullsArePieces }
 {}
 
-/// What a unit pulls since it last began is a front of its own pulls, and in the end all of them, unless it is given up.
+/// What a unit pulls since it last began is a front of its own pulls, and in the end all of them, unless it is given
+/// up.
 pub fn units_pull_their_own()
     ensures { UnitsPullTheirOwn }
 {}

@@ -1,5 +1,7 @@
 -- The names of different files differ.
-use Rattle.std.proofs.Common.{◌≡◌, ◌⊎◌, inl, inr, ℕ, zero, suc, ◌+◌, ◌/◌, ◌%◌, ◌^◌, ◌<◌, true, false, nat_eq, nat_le, get_or, List, [], ◌∷◌, ◌++◌, length, codes, Some, None, Option, refl, sym, ap, ◌∙◌, arith, append_assoc}
+use Rattle.std.proofs.Common.{◌≡◌, ◌⊎◌, inl, inr, ℕ, zero, suc, ◌+◌, ◌/◌, ◌%◌, ◌^◌, ◌<◌, true, false, nat_eq, nat_le}
+use Rattle.std.proofs.Common.{get_or, List, [], ◌∷◌, ◌++◌, length, codes, Some, None, Option, refl, sym, ap, ◌∙◌, arith}
+use Rattle.std.proofs.Common.{append_assoc}
 use Rattle.std.specs.List.{list_any, slice_get}
 use Rattle.std.specs.Option.{option_map, unwrap_or}
 use Rattle.std.specs.Fmt.{decimal, digit_glyph}

@@ -30,7 +30,8 @@ use Rattle.gob_meaning.specs.TablesOfValues.{CastTable, ReadTable, WriteTable}
 use Rattle.gob_meaning.specs.TablesOfTests.{CompareTable, CheckTable, FitTable}
 use Rattle.gob_meaning.specs.TablesOfPlans.{FormatTable, PlaceTable, PlanTable}
 use Rattle.gob_meaning.specs.TablesOfUnits as units
-use Rattle.gob_meaning.specs.TablesOfUnits.{RulingTable, ForkTable, SentTable, TargetTable, SumTable, RuleTable, ResultTable, GoneUnit, StopTable, NameTable}
+use Rattle.gob_meaning.specs.TablesOfUnits.{RulingTable, ForkTable, SentTable, TargetTable, SumTable, RuleTable}
+use Rattle.gob_meaning.specs.TablesOfUnits.{ResultTable, GoneUnit, StopTable, NameTable}
 use Rattle.gob_meaning.proofs.Quick.{quick_sent, quick_results, quick_stops}
 use Rattle.gob_meaning.specs.TablesOfSteps.{ColumnsTable, RowsTable, PiecesTable, StepsTable, ChainTable}
 

@@ -1,12 +1,15 @@
 -- The date of a day number is in the calendar, has that number and is alone in having it.
-use Rattle.std.proofs.Common.{◌≡◌, ℕ, suc, ◌+◌, ◌-◌, ◌*◌, ◌/◌, ◌%◌, ◌<◌, ◌≤◌, ◌↔◌, inl, inr, nat_lt, sym, ◌∙◌, arith, ℤ, pos, ◌<ℤ◌}
+use Rattle.std.proofs.Common.{◌≡◌, ℕ, suc, ◌+◌, ◌-◌, ◌*◌, ◌/◌, ◌%◌, ◌<◌, ◌≤◌, ◌↔◌, inl, inr, nat_lt, sym, ◌∙◌, arith, ℤ}
+use Rattle.std.proofs.Common.{pos, ◌<ℤ◌}
 use Rattle.std.proofs.lemmas.Bool.{cond_both, cases_order, ltb-true, ltb-false}
 use Rattle.std.proofs.lemmas.Int.{by_lt_z}
 use Rattle.jiff_core.specs.Calendar.{day_count, days_from_civil, IsCivilDate}
 use Rattle.jiff_core.specs.March.{march_days}
 use Rattle.jiff_core.proofs.SignedLemmas.{signed_arith}
-use Rattle.jiff_core.proofs.MarchLemmas.{leap_day, leap_day-shift, march_days-suc, day_count-early, day_count-late, month_and_day, day_in_month, day_in_early_month}
-use Rattle.jiff_core.proofs.CalendarLemmas.{days_from_civil-day_count, day_count-lt_year, day_count-lt_month, day_count-day}
+use Rattle.jiff_core.proofs.MarchLemmas.{leap_day, leap_day-shift, march_days-suc, day_count-early, day_count-late}
+use Rattle.jiff_core.proofs.MarchLemmas.{month_and_day, day_in_month, day_in_early_month}
+use Rattle.jiff_core.proofs.CalendarLemmas.{days_from_civil-day_count, day_count-lt_year, day_count-lt_month}
+use Rattle.jiff_core.proofs.CalendarLemmas.{day_count-day}
 use Rattle.gob_meaning.specs.Days.{date_of, IsDateOf}
 
 -- a day of the year that begins in March, and how many days come before that year

@@ -1,5 +1,6 @@
 -- A plan fits where its parts do, and without its rules as before.
-use Rattle.std.proofs.Common.{◌≡◌, ◌↔◌, ℕ, Bool, true, false, cond, not, ◌&&◌, nat_le, List, length, refl, sym, ap, ◌∙◌, arith, Ok, Err, Option, None, Some, []}
+use Rattle.std.proofs.Common.{◌≡◌, ◌↔◌, ℕ, Bool, true, false, cond, not, ◌&&◌, nat_le, List, length, refl, sym, ap, ◌∙◌}
+use Rattle.std.proofs.Common.{arith, Ok, Err, Option, None, Some, []}
 use Rattle.std.proofs.lemmas.Bool.{and_parts, and_from, eqb-true, eq-eqb, true≢false}
 use Rattle.gob_plan.specs.declared.plan.Plan.{Plan}
 use Rattle.gob_meaning.specs.Items.{Target, out, err, bad, line_made}
@@ -8,7 +9,8 @@ use Rattle.gob_bytes.specs.Lines.{ends_in_lf}
 use Rattle.gob_plan.specs.declared.units.Unit.{Unit as WorkUnit}
 use Rattle.gob_meaning.specs.Results.{good, verdict_of, warnings_of}
 use Rattle.gob_meaning.specs.Names.{target_name}
-use Rattle.gob_meaning.specs.Plans.{max_branches, source_fits, fork_fits, branches_fit, rules_fit, is_within_limits, is_fitting, IsFitting, without_rules}
+use Rattle.gob_meaning.specs.Plans.{max_branches, source_fits, fork_fits, branches_fit, rules_fit, is_within_limits}
+use Rattle.gob_meaning.specs.Plans.{is_fitting, IsFitting, without_rules}
 use Rattle.gob_meaning.specs.Laws.{FitsInParts, RulesAside, TestsFit}
 use Rattle.gob_plan.specs.declared.steps.Refusal.{Refusal}
 use Rattle.gob_plan.specs.declared.rows.Kind.{Kind}

@@ -1,5 +1,6 @@
 -- Places change nothing of what a line makes but the folders.
-use Rattle.std.proofs.Common.{◌≡◌, ℕ, ◌+◌, Bool, true, false, cond, not, ◌&&◌, ◌||◌, nat_eq, List, [], ◌∷◌, ◌++◌, map, filter, refl, sym, ap, ◌∙◌, Some, None, Option}
+use Rattle.std.proofs.Common.{◌≡◌, ℕ, ◌+◌, Bool, true, false, cond, not, ◌&&◌, ◌||◌, nat_eq, List, [], ◌∷◌, ◌++◌, map}
+use Rattle.std.proofs.Common.{filter, refl, sym, ap, ◌∙◌, Some, None, Option}
 use Rattle.std.specs.List.{list_any, enumerate_from}
 use Rattle.std.specs.Option.{option_map}
 use Rattle.gob_bytes.specs.Lines.{raw_of, text_of}
@@ -13,7 +14,8 @@ use Rattle.gob_meaning.specs.Formats.{line_rows, record_of}
 use Rattle.gob_meaning.specs.Steps.{columns_through, chain_rows}
 use Rattle.gob_meaning.specs.Policies.{Ruling, pass, to_error, kill, ruling}
 use Rattle.gob_meaning.specs.Fork.{picks, place_of}
-use Rattle.gob_meaning.specs.Items.{RowMade, nothing, row_made_of, made_in_branch, made_in_branches, is_picked, made_of_items, made_of_rows, line_made}
+use Rattle.gob_meaning.specs.Items.{RowMade, nothing, row_made_of, made_in_branch, made_in_branches, is_picked}
+use Rattle.gob_meaning.specs.Items.{made_of_items, made_of_rows, line_made}
 use Rattle.gob_meaning.specs.Laws.{without_places, outside_folders, PlacesAside}
 
 -- an item in no folder, and items

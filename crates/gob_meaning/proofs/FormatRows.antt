@@ -1,5 +1,6 @@
 -- What formats make of lines and rows.
-use Rattle.std.proofs.Common.{◌≡◌, ℕ, Bool, true, false, cond, nat_eq, List, [], ◌∷◌, ◌++◌, map, codes, option_and_then, Some, None, Option, refl, sym, subst, append_assoc}
+use Rattle.std.proofs.Common.{◌≡◌, ℕ, Bool, true, false, cond, nat_eq, List, [], ◌∷◌, ◌++◌, map, codes, option_and_then}
+use Rattle.std.proofs.Common.{Some, None, Option, refl, sym, subst, append_assoc}
 use Rattle.std.specs.List.{list_any, list_all}
 use Rattle.std.specs.Option.{option_map, is_none}
 use Rattle.std.specs.Str.{bytes_eq, is_utf8}
@@ -25,7 +26,9 @@ use Rattle.gob_convert.specs.Fitting.{all_made-each}
 use Rattle.gob_plan.specs.declared.plan.Format.{Format}
 use Rattle.gob_plan.specs.declared.plan.Format.TheVariants as format
 use Rattle.gob_meaning.specs.Plans.{lines_refusal, writes_columns}
-use Rattle.gob_meaning.specs.Formats.{row_of, value_before, text_line_rows, text_record, field_value, field_values, csv_record, member_value, member_or_null, member_values, members_of, json_record, line_rows, record_of}
+use Rattle.gob_meaning.specs.Formats.{row_of, value_before, text_line_rows, text_record, field_value, field_values}
+use Rattle.gob_meaning.specs.Formats.{csv_record, member_value, member_or_null, member_values, members_of, json_record}
+use Rattle.gob_meaning.specs.Formats.{line_rows, record_of}
 use Rattle.gob_meaning.specs.Laws.{FormatKeeps}
 use Rattle.gob_meaning.proofs.StepRows.{int_stands, read_stands, text_kind, one_conforms}
 use Rattle.gob_meaning.specs.Plans.{are_line}

@@ -1,5 +1,6 @@
 -- What a text in two pieces makes.
-use Rattle.std.proofs.Common.{◌≡◌, ℕ, ◌+◌, ◌-◌, true, false, cond, List, [], ◌∷◌, ◌++◌, length, nat_eq, map, filter, flat_map, count_by, sum_by, Some, None, Option, refl, sym, ap, ◌∙◌, arith, add_assoc}
+use Rattle.std.proofs.Common.{◌≡◌, ℕ, ◌+◌, ◌-◌, true, false, cond, List, [], ◌∷◌, ◌++◌, length, nat_eq, map, filter}
+use Rattle.std.proofs.Common.{flat_map, count_by, sum_by, Some, None, Option, refl, sym, ap, ◌∙◌, arith, add_assoc}
 use Rattle.std.proofs.lemmas.List.{map-append}
 use Rattle.std.proofs.lemmas.List.Elements.{filter-append}
 use Rattle.std.proofs.lemmas.List.Sums.{sum_by-append, sum_by-cons}
@@ -11,7 +12,10 @@ use Rattle.gob_bytes.proofs.Cuts.{lines_join, lines_fill}
 use Rattle.gob_plan.specs.declared.plan.Plan.{Plan}
 use Rattle.gob_plan.specs.declared.units.Cause.{Cause}
 use Rattle.gob_meaning.specs.Items.{line_made}
-use Rattle.gob_meaning.specs.Fold.{Folded, folded_line, Delivery, unit_fold, deliveries_of, line_deliveries, same_target, sent_to, saturate_u64, items_in, is_record, is_bad, rows_in, unrouted_in, is_written, is_error, in_branch, branch_counts, counts_of, line_stop, stops_or, stop_from, before_stop_from, stop_of, before_stop}
+use Rattle.gob_meaning.specs.Fold.{Folded, folded_line, Delivery, unit_fold, deliveries_of, line_deliveries}
+use Rattle.gob_meaning.specs.Fold.{same_target, sent_to, saturate_u64, items_in, is_record, is_bad, rows_in}
+use Rattle.gob_meaning.specs.Fold.{unrouted_in, is_written, is_error, in_branch, branch_counts, counts_of, line_stop}
+use Rattle.gob_meaning.specs.Fold.{stops_or, stop_from, before_stop_from, stop_of, before_stop}
 use Rattle.gob_meaning.specs.Sums.{both_branches, branch_sums, sum_of}
 use Rattle.gob_meaning.specs.Laws.{FoldJoins, PartsJoin, bad_line_count}
 use Rattle.gob_meaning.proofs.PlainLines.{rest_whole}

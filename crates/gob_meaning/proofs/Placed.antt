@@ -1,5 +1,6 @@
 -- What a unit sends goes to targets that a file's name can have.
-use Rattle.std.proofs.Common.{◌≡◌, ◌≢◌, ℕ, ◌+◌, ◌<◌, ◌≤◌, ◌^◌, Bool, true, false, cond, ◌&&◌, nat_eq, nat_lt, nat_le, ◌/◌, pos, negsuc, List, [], ◌∷◌, ◌++◌, length, map, refl, sym, subst, Some, None, arith}
+use Rattle.std.proofs.Common.{◌≡◌, ◌≢◌, ℕ, ◌+◌, ◌<◌, ◌≤◌, ◌^◌, Bool, true, false, cond, ◌&&◌, nat_eq, nat_lt, nat_le}
+use Rattle.std.proofs.Common.{◌/◌, pos, negsuc, List, [], ◌∷◌, ◌++◌, length, map, refl, sym, subst, Some, None, arith}
 use Rattle.std.specs.List.{list_all, enumerate_from, flat_map}
 use Rattle.std.specs.Str.{bytes_eq}
 use Rattle.std.proofs.lemmas.Bool.{cond_both, and_parts, and_from, eqb-true, lt-ltb, ltb-true}
@@ -21,8 +22,10 @@ use Rattle.gob_meaning.specs.Steps.{columns_through, chain_rows}
 use Rattle.gob_meaning.specs.Policies.{Ruling, pass, to_error, kill, ruling}
 use Rattle.gob_meaning.specs.Days.{Date, date_of, date_folder, day_folder, last_second, no_day}
 use Rattle.gob_meaning.specs.Fork.{picks, place_of}
-use Rattle.gob_meaning.specs.Items.{Target, out, err, bad, End, written, error, killed, RowMade, nothing, row_made_of, made_in_branch, made_in_branches, made_of_items, made_of_rows, line_made}
-use Rattle.gob_meaning.specs.Fold.{folded_line, unit_fold, Delivery, delivery_of, line_deliveries, deliveries_of, same_target, sent_to}
+use Rattle.gob_meaning.specs.Items.{Target, out, err, bad, End, written, error, killed, RowMade, nothing, row_made_of}
+use Rattle.gob_meaning.specs.Items.{made_in_branch, made_in_branches, made_of_items, made_of_rows, line_made}
+use Rattle.gob_meaning.specs.Fold.{folded_line, unit_fold, Delivery, delivery_of, line_deliveries, deliveries_of}
+use Rattle.gob_meaning.specs.Fold.{same_target, sent_to}
 use Rattle.gob_meaning.specs.Laws.{is_folder, IsPlaced}
 
 -- an item whose branch is one of these and whose place is a folder

@@ -1,9 +1,12 @@
 -- What the plain plan makes of whole lines.
-use Rattle.std.proofs.Common.{◌≡◌, ◌≢◌, ◌⊎◌, inl, inr, ℕ, zero, suc, ◌+◌, ◌*◌, Bool, true, false, cond, ◌&&◌, ◌||◌, List, [], ◌∷◌, ◌++◌, length, nat_eq, map, flat_map, count_by, sum_by, None, refl, sym, ap, ◌∙◌, arith, append_assoc, append-nil, length-append, IsUtf8}
+use Rattle.std.proofs.Common.{◌≡◌, ◌≢◌, ◌⊎◌, inl, inr, ℕ, zero, suc, ◌+◌, ◌*◌, Bool, true, false, cond, ◌&&◌, ◌||◌}
+use Rattle.std.proofs.Common.{List, [], ◌∷◌, ◌++◌, length, nat_eq, map, flat_map, count_by, sum_by, None, refl, sym, ap}
+use Rattle.std.proofs.Common.{◌∙◌, arith, append_assoc, append-nil, length-append, IsUtf8}
 use Rattle.std.specs.List.{list_any}
 use Rattle.std.specs.Str.{is_utf8, bytes_eq}
 use Rattle.std.proofs.lemmas.Bool.{cond-true, cond-false, cond_both, eqb-true, true≢false, and_left, ne_eqb}
-use Rattle.std.proofs.lemmas.Str.{IsUtf8-from_is_utf8, is_utf8-from_IsUtf8, IsUtf8-take, IsUtf8-drop, IsCharBoundary-after_ascii}
+use Rattle.std.proofs.lemmas.Str.{IsUtf8-from_is_utf8, is_utf8-from_IsUtf8, IsUtf8-take, IsUtf8-drop}
+use Rattle.std.proofs.lemmas.Str.{IsCharBoundary-after_ascii}
 use Rattle.std.proofs.lemmas.List.Sums.{sum_by-cons}
 use Rattle.std.proofs.Math.Nat.{suc-mul}
 use Rattle.std.proofs.Math.Seq.{take-append_seam, drop-append-add, get_or-append_seam}
@@ -16,7 +19,9 @@ use Rattle.gob_meaning.specs.Formats.{line_rows, record_of}
 use Rattle.gob_meaning.specs.Policies.{ruling}
 use Rattle.gob_meaning.specs.Fork.{picks, place_of}
 use Rattle.gob_meaning.specs.Items.{Target, out, err, bad, written, RowMade, LineMade, made, made_in_branch, line_made}
-use Rattle.gob_meaning.specs.Fold.{Folded, folded_line, unit_fold, deliveries_of, sent_to, counts_of, stop_of, before_stop, stop_from, before_stop_from, saturate_u64, same_target, is_record, is_bad, rows_in, unrouted_in, is_written, is_error, in_branch}
+use Rattle.gob_meaning.specs.Fold.{Folded, folded_line, unit_fold, deliveries_of, sent_to, counts_of, stop_of}
+use Rattle.gob_meaning.specs.Fold.{before_stop, stop_from, before_stop_from, saturate_u64, same_target, is_record}
+use Rattle.gob_meaning.specs.Fold.{is_bad, rows_in, unrouted_in, is_written, is_error, in_branch}
 use Rattle.gob_meaning.specs.Results.{verdict_of, warnings_of}
 use Rattle.gob_meaning.specs.Job.{plain_plan}
 use Rattle.gob_meaning.specs.Laws.{has_crlf, IsPlainText, MakesItself, IsGoodAlone, all_written}

@@ -8,7 +8,8 @@ use Rattle.gob_plan.specs.declared.units.Unit.{Unit as WorkUnit}
 use Rattle.gob_plan.specs.declared.units.Cause.{Cause}
 use Rattle.gob_plan.specs.declared.units.Cause.TheVariants.{Gone, Torn}
 use Rattle.gob_meaning.specs.Items.{Target}
-use Rattle.gob_meaning.specs.Fold.{Folded, folded_line, unit_fold, deliveries_of, sent_to, counts_of, stop_of, before_stop}
+use Rattle.gob_meaning.specs.Fold.{Folded, folded_line, unit_fold, deliveries_of, sent_to, counts_of, stop_of}
+use Rattle.gob_meaning.specs.Fold.{before_stop}
 use Rattle.gob_meaning.specs.Results.{Verdict, failed, first_failing, verdict_by_policies, unless_stopped, verdict_of}
 use Rattle.gob_meaning.specs.Samples.{unit_at}
 

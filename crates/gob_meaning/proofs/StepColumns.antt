@@ -1,7 +1,10 @@
 -- What a step that isn't refused makes of proper columns.
-use Rattle.std.proofs.Common.{◌≡◌, ℕ, suc, ◌+◌, ◌≤◌, Bool, true, false, cond, not, ◌&&◌, ◌||◌, nat_eq, nat_le, List, [], ◌∷◌, ◌++◌, length, filter, Some, None, Option, Ok, Err, Result, refl, sym, ap, subst, ◌∙◌, arith, length-append}
+use Rattle.std.proofs.Common.{◌≡◌, ℕ, suc, ◌+◌, ◌≤◌, Bool, true, false, cond, not, ◌&&◌, ◌||◌, nat_eq, nat_le, List, []}
+use Rattle.std.proofs.Common.{◌∷◌, ◌++◌, length, filter, Some, None, Option, Ok, Err, Result, refl, sym, ap, subst, ◌∙◌}
+use Rattle.std.proofs.Common.{arith, length-append}
 use Rattle.std.specs.Str.{bytes_eq}
-use Rattle.std.proofs.lemmas.Bool.{cond_both, and_parts, and_from, true≢false, leb-true, le-leb, not-true, not-false, leb-false, eqb-false}
+use Rattle.std.proofs.lemmas.Bool.{cond_both, and_parts, and_from, true≢false, leb-true, le-leb, not-true, not-false}
+use Rattle.std.proofs.lemmas.Bool.{leb-false, eqb-false}
 use Rattle.std.proofs.lemmas.List.Folds.{list_any-append}
 use Rattle.gob_bytes.proofs.Tables.{name_itself, same_name, two_names}
 use Rattle.gob_plan.specs.declared.rows.Kind.{Kind}
@@ -12,7 +15,9 @@ use Rattle.gob_plan.specs.declared.steps.Refusal.{Refusal}
 use Rattle.gob_plan.specs.Columns.{is_there, distinct, is_columns}
 use Rattle.gob_plan.specs.Rows.{is_of, is_text, kind_of}
 use Rattle.gob_plan.specs.Tests.{check_takes, check_is_right}
-use Rattle.gob_meaning.specs.Steps.{is_among, has_twice, first_missing, columns_named, columns_but, with_new_name, with_new_kind, with_column, is_full, unless_missing, of_kind, each_kind, columns_after}
+use Rattle.gob_meaning.specs.Steps.{is_among, has_twice, first_missing, columns_named, columns_but, with_new_name}
+use Rattle.gob_meaning.specs.Steps.{with_new_kind, with_column, is_full, unless_missing, of_kind, each_kind}
+use Rattle.gob_meaning.specs.Steps.{columns_after}
 use Rattle.gob_meaning.proofs.PlainLines.{or_parts}
 
 -- ---- what the answer of a step tells

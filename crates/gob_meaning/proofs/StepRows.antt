@@ -1,5 +1,6 @@
 -- What a step that isn't refused makes of a row that conforms.
-use Rattle.std.proofs.Common.{◌≡◌, ℤ, ℕ, ◌+◌, Bool, true, false, cond, not, ◌||◌, nat_eq, List, [], ◌∷◌, ◌++◌, length, map, Some, None, Option, Ok, Err, Result, refl, sym, ap, subst, ◌∙◌}
+use Rattle.std.proofs.Common.{◌≡◌, ℤ, ℕ, ◌+◌, Bool, true, false, cond, not, ◌||◌, nat_eq, List, [], ◌∷◌, ◌++◌, length}
+use Rattle.std.proofs.Common.{map, Some, None, Option, Ok, Err, Result, refl, sym, ap, subst, ◌∙◌}
 use Rattle.std.specs.List.{list_all}
 use Rattle.std.specs.Option.{option_map, unwrap_or}
 use Rattle.std.specs.Str.{bytes_eq, str_to_ascii_lowercase, str_to_ascii_uppercase}
@@ -21,7 +22,10 @@ use Rattle.gob_plan.specs.Columns.{is_there, distinct, is_columns}
 use Rattle.gob_plan.specs.Rows.{is_of, is_text, may_stand, values_conform, conforms, kind_of, value_of}
 use Rattle.gob_plan.specs.Tests.{test_holds, check_takes, check_is_right}
 use Rattle.gob_meaning.specs.Values.{cast, value_read, bool_read, bool_text, bool_of_int, int_of_bool}
-use Rattle.gob_meaning.specs.Steps.{is_among, has_twice, first_missing, columns_named, columns_but, with_new_name, with_new_kind, with_column, is_full, each_kind, columns_after, other_values, with_value, one_row, row_with_change, on_text, pieces_of, row_for_each_piece, step_rows}
+use Rattle.gob_meaning.specs.Steps.{is_among, has_twice, first_missing, columns_named, columns_but, with_new_name}
+use Rattle.gob_meaning.specs.Steps.{with_new_kind, with_column, is_full, each_kind, columns_after, other_values}
+use Rattle.gob_meaning.specs.Steps.{with_value, one_row, row_with_change, on_text, pieces_of, row_for_each_piece}
+use Rattle.gob_meaning.specs.Steps.{step_rows}
 use Rattle.gob_meaning.specs.Laws.{StepKeeps}
 use Rattle.gob_meaning.proofs.PlainLines.{or_parts}
 use Rattle.gob_meaning.proofs.StepColumns.{told_missing, told_kind, set_told, columns_parts, step_columns}

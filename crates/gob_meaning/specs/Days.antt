@@ -1,5 +1,6 @@
 -- Dates by day number, where day 0 is 1 January 1970, and the folder of a second's day.
-use Rattle.std.specs.Prelude.{◌≡◌, ℕ, ◌+◌, ◌-◌, ◌*◌, ◌/◌, ◌%◌, nat_lt, nat_le, if◌then◌else◌, ℤ, pos, negsuc, List, [], ◌∷◌, ◌++◌, codes}
+use Rattle.std.specs.Prelude.{◌≡◌, ℕ, ◌+◌, ◌-◌, ◌*◌, ◌/◌, ◌%◌, nat_lt, nat_le, if◌then◌else◌, ℤ, pos, negsuc, List, []}
+use Rattle.std.specs.Prelude.{◌∷◌, ◌++◌, codes}
 use Rattle.gob_bytes.specs.Digits.{padded}
 use Rattle.gob_plan.specs.declared.rows.Value.{Value}
 use Rattle.gob_plan.specs.declared.rows.Value.TheVariants as value

@@ -1,5 +1,6 @@
 -- What the bytes of a unit make: the lines in order, what goes where, the counts, and where they stop.
-use Rattle.std.specs.Prelude.{ℕ, ◌+◌, ◌-◌, ◌^◌, min, Bool, true, false, if◌then◌else◌, ◌&&◌, nat_eq, List, [], ◌∷◌, map, filter, flat_map, count_by, sum_by, length}
+use Rattle.std.specs.Prelude.{ℕ, ◌+◌, ◌-◌, ◌^◌, min, Bool, true, false, if◌then◌else◌, ◌&&◌, nat_eq, List, [], ◌∷◌, map}
+use Rattle.std.specs.Prelude.{filter, flat_map, count_by, sum_by, length}
 use Rattle.std.specs.declared.option.Option.{Option}
 use Rattle.std.specs.declared.option.Option.TheVariants.{None, Some}
 use Rattle.std.specs.Option.{option_map}
@@ -11,7 +12,8 @@ use Rattle.gob_plan.specs.declared.units.BranchCounts.{BranchCounts}
 use Rattle.gob_plan.specs.declared.units.Counts.{Counts}
 use Rattle.gob_plan.specs.declared.units.Cause.{Cause}
 use Rattle.gob_plan.specs.declared.units.Cause.TheVariants.{Kill, BadRecords}
-use Rattle.gob_meaning.specs.Items.{Target, out, err, bad, End, written, error, killed, RowMade, LineMade, nothing, bad_line, made, line_made}
+use Rattle.gob_meaning.specs.Items.{Target, out, err, bad, End, written, error, killed, RowMade, LineMade, nothing}
+use Rattle.gob_meaning.specs.Items.{bad_line, made, line_made}
 
 -- a line with its offset in the partition
 pub record Folded : Type 0 where

@@ -1,5 +1,6 @@
 -- Laws of what units make.
-use Rattle.std.specs.Prelude.{◌≡◌, ◌≢◌, ◌⊎◌, ◌↔◌, ◌<◌, ◌≤◌, ◌^◌, ℕ, ◌+◌, ◌-◌, Bool, true, false, ◌&&◌, ◌||◌, nat_eq, List, [], ◌∷◌, ◌++◌, length, map, count_by}
+use Rattle.std.specs.Prelude.{◌≡◌, ◌≢◌, ◌⊎◌, ◌↔◌, ◌<◌, ◌≤◌, ◌^◌, ℕ, ◌+◌, ◌-◌, Bool, true, false, ◌&&◌, ◌||◌, nat_eq}
+use Rattle.std.specs.Prelude.{List, [], ◌∷◌, ◌++◌, length, map, count_by}
 use Rattle.std.specs.declared.option.Option.TheVariants.{None, Some}
 use Rattle.std.specs.declared.result.Result.TheVariants.{Ok}
 use Rattle.std.specs.Str.{is_utf8}
@@ -24,7 +25,8 @@ use Rattle.gob_plan.specs.declared.units.Counts.{Counts}
 use Rattle.gob_plan.specs.declared.units.Unit.{Unit as WorkUnit}
 use Rattle.gob_meaning.specs.Days.{date_of, IsDateOf}
 use Rattle.gob_meaning.specs.Items.{Target, out, err, bad, RowMade, LineMade, nothing, bad_line, made, line_made}
-use Rattle.gob_meaning.specs.Fold.{Folded, folded_line, unit_fold, deliveries_of, sent_to, is_bad, counts_of, saturate_u64, stops_or, stop_from, before_stop_from, stop_of, before_stop}
+use Rattle.gob_meaning.specs.Fold.{Folded, folded_line, unit_fold, deliveries_of, sent_to, is_bad, counts_of}
+use Rattle.gob_meaning.specs.Fold.{saturate_u64, stops_or, stop_from, before_stop_from, stop_of, before_stop}
 use Rattle.gob_meaning.specs.Sums.{sum_of}
 use Rattle.gob_meaning.specs.Results.{good, verdict_of}
 use Rattle.gob_bytes.specs.Escapes.{AreBytes}

@@ -22,7 +22,8 @@ use Rattle.gob_plan.specs.declared.plan.TaskRule.TheVariants.{Range, Share}
 use Rattle.gob_plan.specs.declared.plan.TaskRule.{TaskRule}
 use Rattle.gob_plan.specs.declared.plan.Plan.{Plan}
 use Rattle.gob_meaning.specs.Plans.{reads_columns, write_refusal, place_refusal, is_fitting}
-use Rattle.gob_meaning.specs.Samples.{text, text_column, int_column, column, id_name, test, equals, policy, branch, lines_branch, plan, lines_plan, forked_plan}
+use Rattle.gob_meaning.specs.Samples.{text, text_column, int_column, column, id_name, test, equals, policy, branch}
+use Rattle.gob_meaning.specs.Samples.{lines_branch, plan, lines_plan, forked_plan}
 use Rattle.gob_meaning.specs.TablesOfSteps.{many}
 
 -- ---- formats and places

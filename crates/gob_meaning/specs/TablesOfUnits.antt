@@ -32,7 +32,9 @@ use Rattle.gob_meaning.specs.Fold.{Delivery, sent_to, deliveries_of, unit_fold, 
 use Rattle.gob_meaning.specs.Sums.{sum_of}
 use Rattle.gob_meaning.specs.Results.{Verdict, good, failed, rule_holds, verdict_of}
 use Rattle.gob_meaning.specs.Names.{target_name}
-use Rattle.gob_meaning.specs.Samples.{text, int, row, text_column, int_column, id_name, test, negation, equals, at_least, policy, branch, lines_branch, fork, plan, lines_plan, forked_plan, unit_at, counts, branch_of}
+use Rattle.gob_meaning.specs.Samples.{text, int, row, text_column, int_column, id_name, test, negation, equals}
+use Rattle.gob_meaning.specs.Samples.{at_least, policy, branch, lines_branch, fork, plan, lines_plan, forked_plan}
+use Rattle.gob_meaning.specs.Samples.{unit_at, counts, branch_of}
 
 -- ---- a row's policies and branches
 

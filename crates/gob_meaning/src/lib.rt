@@ -4,7 +4,9 @@
 
 ghost use Rattle.std.specs.Prelude.{◌≡◌, ℕ, true, List};
 ghost use Rattle.gob_plan.specs.declared.units.Unit.{Unit as WorkUnit};
-ghost use Rattle.gob_meaning.specs.Laws.{NamesTellApart, SentIsPlaced, DaysHaveDates, StepKeeps, StepsKeep, FormatKeeps, TestsFit, ReadIsWritten, FitsInParts, RulesAside, PlacesAside, FoldJoins, PartsJoin, IsPlainText, MakesItself, IsGoodAlone};
+ghost use Rattle.gob_meaning.specs.Laws.{NamesTellApart, SentIsPlaced, DaysHaveDates, StepKeeps, StepsKeep};
+ghost use Rattle.gob_meaning.specs.Laws.{FormatKeeps, TestsFit, ReadIsWritten, FitsInParts, RulesAside, PlacesAside};
+ghost use Rattle.gob_meaning.specs.Laws.{FoldJoins, PartsJoin, IsPlainText, MakesItself, IsGoodAlone};
 ghost use Rattle.gob_meaning.specs.Fold.{Folded};
 ghost use Rattle.gob_meaning.specs.Job.{plain_plan};
 ghost use Rattle.gob_meaning.specs.Plans.{is_fitting};
@@ -13,7 +15,8 @@ ghost use Rattle.gob_meaning.specs.TablesOfValues.{CastTable, ReadTable, WriteTa
 ghost use Rattle.gob_meaning.specs.TablesOfTests.{CompareTable, CheckTable, FitTable};
 ghost use Rattle.gob_meaning.specs.TablesOfSteps.{ColumnsTable, RowsTable, PiecesTable, StepsTable, ChainTable};
 ghost use Rattle.gob_meaning.specs.TablesOfPlans.{FormatTable, PlaceTable, PlanTable};
-ghost use Rattle.gob_meaning.specs.TablesOfUnits.{RulingTable, ForkTable, SentTable, TargetTable, SumTable, RuleTable, ResultTable, GoneUnit, StopTable, NameTable};
+ghost use Rattle.gob_meaning.specs.TablesOfUnits.{RulingTable, ForkTable, SentTable, TargetTable, SumTable, RuleTable};
+ghost use Rattle.gob_meaning.specs.TablesOfUnits.{ResultTable, GoneUnit, StopTable, NameTable};
 ghost use Rattle.gob_plan.specs.declared.plan.Plan.{Plan};
 ghost use Rattle.gob_plan.specs.declared.plan.Format.{Format};
 ghost use Rattle.gob_plan.specs.declared.rows.Column.{Column};

@@ -1,5 +1,6 @@
 -- Bytes that are added to the buffer of a target.
-use Rattle.std.proofs.Common.{◌≡◌, ℕ, zero, suc, ◌+◌, ◌<◌, Bool, true, false, cond, ◌&&◌, nat_eq, List, [], ◌∷◌, ◌++◌, length}
+use Rattle.std.proofs.Common.{◌≡◌, ℕ, zero, suc, ◌+◌, ◌<◌, Bool, true, false, cond, ◌&&◌, nat_eq, List, [], ◌∷◌, ◌++◌}
+use Rattle.std.proofs.Common.{length}
 use Rattle.std.proofs.Common.{map, get_or, set, refl, sym, ap, ap₂, ◌∙◌, subst, arith, None, Some, append-nil}
 use Rattle.std.proofs.lemmas.Bool.Decides.{nat_tests}
 use Rattle.std.proofs.lemmas.Bool.{and_parts, and_from, eqb-true}
@@ -12,7 +13,8 @@ use Rattle.gob_bytes.specs.Tables.{Table, at_name, names_of, name_cmp, with_name
 use Rattle.gob_bytes.proofs.Tables.{at-with_name, rising-with_name, same_name}
 use Rattle.gob_meaning.specs.Items.{Target, out, err, bad}
 use Rattle.gob_meaning.specs.Fold.{Delivery, sent_to, same_target}
-use Rattle.gob_pipeline.specs.Made.{Buffers, AddsTo, AreEmpty, AreSlotsFrom, IsSlot, buffer_of, slot_of, place_in, is_place}
+use Rattle.gob_pipeline.specs.Made.{Buffers, AddsTo, AreEmpty, AreSlotsFrom, IsSlot, buffer_of, slot_of, place_in}
+use Rattle.gob_pipeline.specs.Made.{is_place}
 use Rattle.gob_pipeline.specs.Made.{is_placed, no_places}
 use Rattle.gob_pipeline.specs.Taking.{with_more}
 use Rattle.gob_pipeline.proofs.Targets.{same_by_slot}
@@ -52,7 +54,8 @@ slot_more t table bytes placed s =
     record {
       rising = rising-with_name table (place_in t) x s.rising;
       places = all-with_name is_place table (place_in t) x s.places (placed_place t placed);
-      bad_lines = λ h. all-with_name (λ place. nat_eq (length place) 0) table (place_in t) x (s.bad_lines h) (bad_place t h);
+      bad_lines = λ h. all-with_name (λ place. nat_eq (length place) 0) table (place_in t) x (s.bad_lines h)
+          (bad_place t h);
     }
 
 slots_set : (start n : ℕ) (b : Buffers) (table : Table (List ℕ)) → AreSlotsFrom start b → IsSlot (start + n) table
@@ -160,7 +163,8 @@ pub slot_found : {V : Type 0} (items : V → Table (List ℕ)) (vs : List V) (n 
 slot_found items vs n v all lt is =
     let within : n < length vs = subst (λ k. n < k) (length-map vs items) lt in
     let e : 0 + n ≡ n = omega arith in
-    subst (λ w. IsSlot n (items w)) (sym is) (subst (λ k. IsSlot k (items (get_or vs n v))) e (slot_at items 0 n vs v all within))
+    subst (λ w. IsSlot n (items w)) (sym is) (subst (λ k. IsSlot k (items (get_or vs n v))) e
+    (slot_at items 0 n vs v all within))
 
 pub vector_found : {V : Type 0} (items : V → Table (List ℕ)) (vs : List V) (n : ℕ) (v : V)
     → n < length (map items vs) → v ≡ get_or vs n v → unwrap_or (slice_get (map items vs) n) [] ≡ items v

@@ -1,5 +1,6 @@
 -- What branches count of a line's items.
-use Rattle.std.proofs.Common.{◌≡◌, ℕ, zero, suc, ◌+◌, ◌-◌, ◌<◌, ◌≤◌, ◌^◌, min, Bool, true, false, cond, nat_eq, List, [], ◌∷◌, ◌++◌}
+use Rattle.std.proofs.Common.{◌≡◌, ℕ, zero, suc, ◌+◌, ◌-◌, ◌<◌, ◌≤◌, ◌^◌, min, Bool, true, false, cond, nat_eq, List}
+use Rattle.std.proofs.Common.{[], ◌∷◌, ◌++◌}
 use Rattle.std.proofs.Common.{length, map, filter, get_or, set, drop, refl, sym, ap, ap₂, ◌∙◌, subst, arith, add-one}
 use Rattle.std.proofs.Common.{append-nil, count_by, sum_by}
 use Rattle.std.proofs.lemmas.Bool.{cond-true, cond-false}
@@ -31,7 +32,8 @@ optional_in items = sum_by (λ i. i.optional) items
 
 -- so much was counted, and with the items that are left it is what all count
 pub record Counting (made : BranchCounts) (b : ℕ) (rest all : List RowMade) : Type 0 where
-  pub written : saturate_u64 (made.written + written_in (of_branch b rest)) ≡ saturate_u64 (written_in (of_branch b all))
+  pub written : saturate_u64 (made.written + written_in (of_branch b rest)) ≡ saturate_u64
+      (written_in (of_branch b all))
   pub errors : saturate_u64 (made.errors + errors_in (of_branch b rest)) ≡ saturate_u64 (errors_in (of_branch b all))
   pub optional : saturate_u64 (made.optional + optional_in (of_branch b rest))
       ≡ saturate_u64 (optional_in (of_branch b all))
@@ -64,7 +66,8 @@ counting_cons made b x rest all e c = record {
       (ap optional_in e ∙ sum_by-cons _ x (of_branch b rest)) ∙ c.optional;
 }
 
-goes_on : {A : Type 0} (xs : List A) (i : ℕ) (x : A) → i < length xs → x ≡ get_or xs i x → drop i xs ≡ x ∷ drop (i + 1) xs
+goes_on : {A : Type 0} (xs : List A) (i : ℕ) (x : A) → i < length xs → x ≡ get_or xs i x
+    → drop i xs ≡ x ∷ drop (i + 1) xs
 goes_on xs i x lt is = rw add-one (drop-cons xs i x lt ∙ ap (λ y. y ∷ drop (suc i) xs) (sym is))
 
 -- an item of the branch
@@ -162,7 +165,8 @@ sums_all g start (b ∷ bs) = ap (λ l. both_branches b (g start) ∷ l) (sums_a
 
 -- the items of a line are all that its branches count
 pub same_branches : (n : ℕ) (l : LineMade) (items : List RowMade) → items_in l ≡ items
-    → map (branch_counts (fold_of_items items)) (range_with_len 0 n) ≡ map (branch_counts (one_line 0 l)) (range_with_len 0 n)
+    → map (branch_counts (fold_of_items items)) (range_with_len 0 n) ≡ map (branch_counts (one_line 0 l))
+    (range_with_len 0 n)
 same_branches n l items e =
     ap (λ is. map (branch_counts (fold_of_items is)) (range_with_len 0 n)) (sym e)
 

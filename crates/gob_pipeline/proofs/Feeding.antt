@@ -1,6 +1,7 @@
 -- The states of a machine that is fed.
 use Rattle.std.proofs.Common.{◌≡◌, ◌≢◌, ℕ, zero, suc, ◌+◌, ◌-◌, ◌<◌, ◌≤◌, Bool, true, false, not, ◌&&◌, ◌||◌, nat_eq}
-use Rattle.std.proofs.Common.{List, [], ◌∷◌, ◌++◌, length, map, get_or, take, drop, Option, Some, None, refl, sym, ap, ap₂, ◌∙◌}
+use Rattle.std.proofs.Common.{List, [], ◌∷◌, ◌++◌, length, map, get_or, take, drop, Option, Some, None, refl, sym, ap}
+use Rattle.std.proofs.Common.{ap₂, ◌∙◌}
 use Rattle.std.proofs.Common.{subst, arith, append_assoc, length-append}
 use Rattle.std.proofs.lemmas.Bool.{and_from, ne_eqb}
 use Rattle.std.proofs.Math.Seq.{take-append_seam}
@@ -15,7 +16,8 @@ use Rattle.gob_meaning.specs.Laws.{bad_line_count}
 use Rattle.gob_meaning.specs.Sums.{sum_of}
 use Rattle.gob_pipeline.specs.Made.{Buffers}
 use Rattle.gob_pipeline.specs.Machine.{MachineValue, WasFed, Fed, GoesOn, LineTaken, line_start}
-use Rattle.gob_pipeline.specs.Taking.{TakesLine, LineMakes, EndsAt, IsOneLine, counts_of_line, one_line, none_counted, no_counts}
+use Rattle.gob_pipeline.specs.Taking.{TakesLine, LineMakes, EndsAt, IsOneLine, counts_of_line, one_line, none_counted}
+use Rattle.gob_pipeline.specs.Taking.{no_counts}
 use Rattle.gob_pipeline.specs.States.{TakesEnd, state_value}
 use Rattle.gob_pipeline.specs.declared.machine.State.{State}
 use Rattle.gob_pipeline.proofs.Cuts.{fed_nothing, fed_then}
@@ -144,7 +146,8 @@ fed_on plan first now next piece left line rest before so_far after f split fed 
       front = f.front ++ line;
       whole = f.whole ∙ ap (λ l. f.front ++ l) split ∙ sym (append_assoc f.front line rest);
       seen = omega (arith, total, was, seen);
-      fed = fed_then plan (state_value first) (state_value now) (state_value next) f.front line before so_far after f.fed fed;
+      fed = fed_then plan (state_value first) (state_value now) (state_value next) f.front line before so_far after
+          f.fed fed;
     }
 
 -- how much is left of it
@@ -196,7 +199,8 @@ nothing_stops : (plan : Plan) → None ≡ stop_of plan []
 unfolding stop_of
 nothing_stops plan = refl
 
-pub new_was_fed : (plan : Plan) (m : MachineValue) → m.seen ≡ 0 → m.line ≡ [] → m.counts ≡ no_counts (length plan.branches)
+pub new_was_fed : (plan : Plan) (m : MachineValue) → m.seen ≡ 0 → m.line ≡ []
+    → m.counts ≡ no_counts (length plan.branches)
     → m.bad_left ≡ plan.skip_errors → m.stop ≡ None → m.torn ≡ false → m.broken ≡ false → WasFed plan m []
 unfolding Rattle.gob_bytes.specs.Lines.rest_from
 new_was_fed plan m seen line counts left stop torn whole =

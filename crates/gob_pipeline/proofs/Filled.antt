@@ -1,5 +1,6 @@
 -- What is in the buffers, target by target.
-use Rattle.std.proofs.Common.{◌≡◌, ◌≢◌, ℕ, zero, suc, ◌+◌, ◌<◌, ◌≤◌, Bool, true, false, cond, not, ◌&&◌, nat_eq, nat_lt, nat_le}
+use Rattle.std.proofs.Common.{◌≡◌, ◌≢◌, ℕ, zero, suc, ◌+◌, ◌<◌, ◌≤◌, Bool, true, false, cond, not, ◌&&◌, nat_eq, nat_lt}
+use Rattle.std.proofs.Common.{nat_le}
 use Rattle.std.proofs.Common.{List, [], ◌∷◌, ◌++◌, length, map, refl, sym, ap, ap₂, ◌∙◌, subst, arith, None, Some}
 use Rattle.std.proofs.Common.{append-nil, flat_map}
 use Rattle.std.proofs.lemmas.Bool.{and_parts, and_from, lt-ltb, le-leb, ltb-true, leb-true, eqb-true}
@@ -124,7 +125,8 @@ sent_at t n (suc k) (table ∷ tables) at slots =
     next : AreSlotsFrom (suc n) tables → AreSlotsFrom (n + 1) tables
     next h = let e : suc n ≡ n + 1 = omega arith in subst (λ k. AreSlotsFrom k tables) e h
 
-pub filled_sent : (buffers : Buffers) → AreSlots buffers → (t : Target) → sent_to t (filled buffers) ≡ buffer_of buffers t
+pub filled_sent : (buffers : Buffers) → AreSlots buffers → (t : Target)
+    → sent_to t (filled buffers) ≡ buffer_of buffers t
 unfolding filled
 filled_sent buffers slots t = sent_at t 0 (slot_of t) buffers (omega arith) slots
 
@@ -220,7 +222,8 @@ slots_apart n (table ∷ tables) slots =
     (slots_apart (n + 1) tables rest)
     (filled_pass (λ d. list_all (λ e. not (same_target d.target e.target)) (all_from (n + 1) tables)) n table proper
     (λ place b bs h placed. all_pass (λ e. not (same_target (target_in n place) e.target)) (n + 1) tables rest
-    (λ k other c cs low high fits there. across_slots n k place other fits (λ same. absurd (omega (arith, same, low))))))
+    (λ k other c cs low high fits there. across_slots n k place other fits
+    (λ same. absurd (omega (arith, same, low))))))
 
 -- ---- the laws
 

@@ -1,5 +1,6 @@
 -- A line in the parts of its plan: its text, its rows and what they make.
-use Rattle.std.proofs.Common.{◌≡◌, ℕ, suc, ◌+◌, ◌-◌, ◌^◌, ◌<◌, ◌≤◌, true, false, cond, not, ◌&&◌, nat_eq, nat_le, List, [], ◌∷◌, ◌++◌, length, take, filter}
+use Rattle.std.proofs.Common.{◌≡◌, ℕ, suc, ◌+◌, ◌-◌, ◌^◌, ◌<◌, ◌≤◌, true, false, cond, not, ◌&&◌, nat_eq, nat_le, List}
+use Rattle.std.proofs.Common.{[], ◌∷◌, ◌++◌, length, take, filter}
 use Rattle.std.proofs.Common.{Option, None, Some, refl, sym, ap, subst, ◌∙◌, arith}
 use Rattle.std.proofs.Math.Seq.{take-append_seam}
 use Rattle.std.proofs.lemmas.Bool.{and_parts, leb-true}
@@ -19,7 +20,8 @@ use Rattle.gob_plan.specs.Tests.{test_fits}
 use Rattle.gob_plan.specs.Rows.{conforms}
 use Rattle.gob_meaning.specs.Formats.{line_rows}
 use Rattle.gob_meaning.specs.Items.{RowMade, LineMade, nothing, line_made}
-use Rattle.gob_meaning.specs.Plans.{max_steps, max_branches, branch_fits, branch_is_short, is_fitting, IsFitting, writes_columns}
+use Rattle.gob_meaning.specs.Plans.{max_steps, max_branches, branch_fits, branch_is_short, is_fitting, IsFitting}
+use Rattle.gob_meaning.specs.Plans.{writes_columns}
 use Rattle.gob_meaning.specs.Steps.{chain_rows, columns_through, first_refused}
 use Rattle.gob_meaning.proofs.Fits.{fits_in_parts}
 use Rattle.gob_meaning.proofs.FormatRows.{format_keeps, read_is_written}
@@ -119,7 +121,8 @@ few_steps own plan same fits =
     ∙ (set_up plan fits).parts.few_steps) in
     omega (arith, few)
 
-pub steps_accepted : (own plan : Plan) → own ≡ plan → is_fitting plan ≡ true → first_refused own.steps plan.columns ≡ None
+pub steps_accepted : (own plan : Plan) → own ≡ plan → is_fitting plan ≡ true
+    → first_refused own.steps plan.columns ≡ None
 steps_accepted own plan same fits = ap (λ (p : Plan). first_refused p.steps plan.columns) same
     ∙ (set_up plan fits).accepted
 

@@ -13,7 +13,8 @@ use Rattle.gob_plan.specs.declared.rows.Row.{Row}
 use Rattle.gob_convert.specs.Made.{concatenation, made_each}
 use Rattle.gob_meaning.specs.Items.{RowMade}
 use Rattle.gob_branch.proofs.Joined.{made_all, made_bad, made_on}
-use Rattle.gob_pipeline.specs.Routes.{AreBranches, RoutesValue, RowSent, branch_makes, is_routed, is_taken, route_makes, specs_of}
+use Rattle.gob_pipeline.specs.Routes.{AreBranches, RoutesValue, RowSent, branch_makes, is_routed, is_taken, route_makes}
+use Rattle.gob_pipeline.specs.Routes.{specs_of}
 
 -- the branch at a place: its number and its columns, and how its spec stands among the numbered specs
 pub record BranchAt (columns : List Column) (n : ℕ) (bs : List BranchValue) (i : ℕ) (b : BranchValue) : Type 0 where
@@ -58,7 +59,8 @@ sent_more r row old now next bs i b routed takes so are specs lt is made taken =
     let entry : (b.number, b.spec) ≡ get_or xs i (b.number, b.spec) =
     subst (λ l. (b.number, b.spec) ≡ get_or (enumerate_from 0 l) i (b.number, b.spec)) specs at.entry in
     record {
-      made = made_on (branch_makes r row) xs i (b.number, b.spec) now next (concatenation (Some old) (route_makes r row))
+      made = made_on (branch_makes r row) xs i (b.number, b.spec) now next
+          (concatenation (Some old) (route_makes r row))
           within entry so.made made;
       routed_is = ap₂ (λ x y. x || y) so.routed_is (taken ∙ ap (is_taken r row) entry)
           ∙ sym (list_any_more (is_taken r row) xs i (b.number, b.spec) within);

@@ -1,6 +1,8 @@
 -- The items of a line have branches that are there, and places that a name can have.
-use Rattle.std.proofs.Common.{◌≡◌, ℕ, zero, suc, ◌+◌, ◌*◌, ◌<◌, ◌≤◌, Bool, true, false, cond, not, ◌&&◌, nat_eq, nat_lt, List, [], ◌∷◌, ◌++◌}
-use Rattle.std.proofs.Common.{length, get_or, take, map, flat_map, refl, sym, ap, ap₂, ◌∙◌, subst, arith, add-one, append-nil, append_assoc}
+use Rattle.std.proofs.Common.{◌≡◌, ℕ, zero, suc, ◌+◌, ◌*◌, ◌<◌, ◌≤◌, Bool, true, false, cond, not, ◌&&◌, nat_eq, nat_lt}
+use Rattle.std.proofs.Common.{List, [], ◌∷◌, ◌++◌}
+use Rattle.std.proofs.Common.{length, get_or, take, map, flat_map, refl, sym, ap, ap₂, ◌∙◌, subst, arith, add-one}
+use Rattle.std.proofs.Common.{append-nil, append_assoc}
 use Rattle.std.proofs.Common.{None, Some}
 use Rattle.std.proofs.lemmas.Bool.{and_parts, and_from, lt-ltb}
 use Rattle.std.proofs.lemmas.List.Folds.{list_all-append}
@@ -18,7 +20,8 @@ use Rattle.gob_meaning.specs.Formats.{line_rows, record_of}
 use Rattle.gob_meaning.specs.Steps.{columns_through, chain_rows}
 use Rattle.gob_meaning.specs.Policies.{Ruling, pass, to_error, kill, ruling}
 use Rattle.gob_meaning.specs.Fork.{picks, place_of}
-use Rattle.gob_meaning.specs.Items.{RowMade, LineMade, nothing, row_made_of, made_in_branch, made_in_branches, made_of_items}
+use Rattle.gob_meaning.specs.Items.{RowMade, LineMade, nothing, row_made_of, made_in_branch, made_in_branches}
+use Rattle.gob_meaning.specs.Items.{made_of_items}
 use Rattle.gob_meaning.specs.Items.{made_of_rows, line_made}
 use Rattle.gob_meaning.specs.Fold.{items_in, delivery_of, Delivery}
 use Rattle.gob_meaning.proofs.Placed.{folder_placed}
@@ -44,7 +47,8 @@ pub flat_more : {A B : Type 0} (f : A → List B) (xs : List A) (i : ℕ) (x : A
     → flat_map f (take i xs) ++ f x ≡ flat_map f (take (i + 1) xs)
 flat_more f xs i x e = rw add-one (more xs i e)
   where
-    more : (ys : List _) (j : ℕ) → slice_get ys j ≡ Some x → flat_map f (take j ys) ++ f x ≡ flat_map f (take (suc j) ys)
+    more : (ys : List _) (j : ℕ) → slice_get ys j ≡ Some x → flat_map f (take j ys)
+        ++ f x ≡ flat_map f (take (suc j) ys)
     more [] j h = absurd (cc)
     more (y ∷ ys) zero h = let same : y ≡ x = cc in ap f (sym same) ∙ sym (append-nil (f y))
     more (y ∷ ys) (suc j) h = append_assoc (f y) (flat_map f (take j ys)) (f x) ∙ ap (λ l. f y ++ l) (more ys j h)
@@ -59,7 +63,8 @@ joined_fit n None b x y = refl
 joined_fit n (Some xs) None x y = refl
 joined_fit n (Some xs) (Some ys) x y = list_all-append (item_fits n) xs ys ∙ and_from _ _ x y
 
-each_fit : {A : Type 0} (n : ℕ) (f : A → Made RowMade) → ((x : A) → Fit n (f x)) → (xs : List A) → Fit n (made_each f xs)
+each_fit : {A : Type 0} (n : ℕ) (f : A → Made RowMade) → ((x : A) → Fit n (f x)) → (xs : List A)
+    → Fit n (made_each f xs)
 each_fit n f each [] = refl
 each_fit n f each (x ∷ xs) = joined_fit n (f x) (made_each f xs) (each x) (each_fit n f each xs)
 
@@ -112,7 +117,8 @@ branches_fit_from plan columns row from n (b ∷ bs) e =
 
 rows_fit : (plan : Plan) (columns : List Column) (row : Row)
     → Fit (2 * length plan.branches + 1) (made_in_branches plan columns row)
-rows_fit plan columns row = branches_fit_from plan columns row 0 (2 * length plan.branches + 1) plan.branches (omega arith)
+rows_fit plan columns row = branches_fit_from plan columns row 0 (2 * length plan.branches + 1) plan.branches
+    (omega arith)
 
 made_fit : (plan : Plan) (columns : List Column) (raw : List ℕ) (rows : List Row) (n : ℕ) (m : Made RowMade) → Fit n m
     → list_all (item_fits n) (items_in (made_of_items plan columns raw rows m)) ≡ true

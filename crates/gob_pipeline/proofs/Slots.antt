@@ -1,5 +1,6 @@
 -- The slots of buffers.
-use Rattle.std.proofs.Common.{◌≡◌, ℕ, zero, suc, ◌+◌, ◌<◌, ◌≤◌, true, false, cond, List, [], ◌∷◌, length, map, get_or, Some, nat_eq}
+use Rattle.std.proofs.Common.{◌≡◌, ℕ, zero, suc, ◌+◌, ◌<◌, ◌≤◌, true, false, cond, List, [], ◌∷◌, length, map, get_or}
+use Rattle.std.proofs.Common.{Some, nat_eq}
 use Rattle.std.proofs.Common.{refl, sym, ap, ap₂, set, take, drop, ◌++◌, add-one, ◌∙◌, subst, arith}
 use Rattle.std.specs.Option.{unwrap_or}
 use Rattle.std.specs.List.{slice_get, list_all}
@@ -8,7 +9,8 @@ use Rattle.gob_bytes.specs.Tables.{Table, at_name, names_of, IsInByteOrder}
 use Rattle.gob_pipeline.proofs.Fronts.{map_front, front_kept, front_more, front_length}
 use Rattle.std.proofs.lemmas.List.{length-map, map-set}
 use Rattle.std.proofs.Math.ListN.{get_or-map}
-use Rattle.gob_pipeline.specs.Made.{Buffers, AreEmpty, IsSlot, AreSlotsFrom, emptied, emptied_place, is_place, slot_of, place_in}
+use Rattle.gob_pipeline.specs.Made.{Buffers, AreEmpty, IsSlot, AreSlotsFrom, emptied, emptied_place, is_place, slot_of}
+use Rattle.gob_pipeline.specs.Made.{place_in}
 
 pub slot_at : {V : Type 0} (items : V → Table (List ℕ)) (start n : ℕ) (vs : List V) (d : V) →
     AreSlotsFrom start (map items vs) → n < length vs → IsSlot (start + n) (items (get_or vs n d))

@@ -1,10 +1,12 @@
 -- A line that was taken.
-use Rattle.std.proofs.Common.{◌≡◌, ℕ, List, [], ◌∷◌, ◌++◌, length, map, suc, ◌+◌, Option, Some, None, refl, sym, ap, ◌∙◌, subst, append-nil}
+use Rattle.std.proofs.Common.{◌≡◌, ℕ, List, [], ◌∷◌, ◌++◌, length, map, suc, ◌+◌, Option, Some, None, refl, sym, ap}
+use Rattle.std.proofs.Common.{◌∙◌, subst, append-nil}
 use Rattle.gob_plan.specs.declared.plan.Plan.{Plan}
 use Rattle.gob_plan.specs.declared.units.Cause.{Cause}
 use Rattle.gob_plan.specs.declared.units.Counts.{Counts}
 use Rattle.gob_meaning.specs.Items.{LineMade}
-use Rattle.gob_meaning.specs.Fold.{Delivery, deliveries_of, before_stop_from, line_deliveries, line_stop, left_after, stops_or}
+use Rattle.gob_meaning.specs.Fold.{Delivery, deliveries_of, before_stop_from, line_deliveries, line_stop, left_after}
+use Rattle.gob_meaning.specs.Fold.{stops_or}
 use Rattle.gob_meaning.specs.Fold.{Folded}
 use Rattle.std.specs.List.{range_with_len}
 use Rattle.gob_plan.specs.declared.units.BranchCounts.{BranchCounts}

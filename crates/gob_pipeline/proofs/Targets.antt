@@ -1,5 +1,6 @@
 -- Targets by their slots and places.
-use Rattle.std.proofs.Common.{◌≡◌, ◌≢◌, ℕ, zero, suc, ◌+◌, ◌*◌, ◌/◌, ◌%◌, ◌<◌, Bool, true, false, cond, not, ◌&&◌, nat_eq, nat_lt}
+use Rattle.std.proofs.Common.{◌≡◌, ◌≢◌, ℕ, zero, suc, ◌+◌, ◌*◌, ◌/◌, ◌%◌, ◌<◌, Bool, true, false, cond, not, ◌&&◌}
+use Rattle.std.proofs.Common.{nat_eq, nat_lt}
 use Rattle.std.proofs.Common.{List, [], ◌∷◌, ◌++◌, length, refl, sym, ap, ap₂, ◌∙◌, subst, arith}
 use Rattle.std.proofs.lemmas.Bool.{cond_both, and_parts, and_from, eqb-true}
 use Rattle.std.proofs.lemmas.Bool.Decides.{nat_tests}
@@ -66,7 +67,8 @@ HasPlace n place = n ≡ 0 → place ≡ []
 pub place_in_slot : (n : ℕ) (place : List ℕ) → HasPlace n place → place_in (target_in n place) ≡ place
 place_in_slot zero place h = sym (h refl)
 place_in_slot (suc n) place h =
-    cond_both (nat_eq (n % 2) 0) (out (n / 2) place) (err (n / 2) place) (λ t. place_in t ≡ place) (λ _. refl) (λ _. refl)
+    cond_both (nat_eq (n % 2) 0) (out (n / 2) place) (err (n / 2) place) (λ t. place_in t ≡ place) (λ _. refl)
+    (λ _. refl)
 
 pub placed_in_slot : (n : ℕ) (place : List ℕ) → is_place place ≡ true → is_placed (target_in n place) ≡ true
 placed_in_slot zero place h = refl

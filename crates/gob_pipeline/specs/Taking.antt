@@ -1,5 +1,6 @@
 -- A line as it is taken: what it makes, what it sends and what it counts.
-use Rattle.std.specs.Prelude.{◌≡◌, ℕ, zero, suc, ◌+◌, ◌*◌, Bool, if◌then◌else◌, ◌&&◌, nat_eq, nat_lt, List, [], ◌∷◌, ◌++◌, map, filter, count_by, sum_by, length, true}
+use Rattle.std.specs.Prelude.{◌≡◌, ℕ, zero, suc, ◌+◌, ◌*◌, Bool, if◌then◌else◌, ◌&&◌, nat_eq, nat_lt, List, [], ◌∷◌}
+use Rattle.std.specs.Prelude.{◌++◌, map, filter, count_by, sum_by, length, true}
 use Rattle.std.specs.declared.option.Option.{Option}
 use Rattle.std.specs.declared.option.Option.TheVariants.{None, Some}
 use Rattle.std.specs.List.{range_with_len}
@@ -10,7 +11,8 @@ use Rattle.gob_plan.specs.declared.plan.Plan.{Plan}
 use Rattle.gob_plan.specs.declared.units.BranchCounts.{BranchCounts}
 use Rattle.gob_plan.specs.declared.units.Counts.{Counts}
 use Rattle.gob_meaning.specs.Items.{RowMade, LineMade, nothing, bad_line, made, line_made}
-use Rattle.gob_meaning.specs.Fold.{Folded, branch_counts, saturate_u64, is_record, is_bad, is_written, is_error, rows_in, unrouted_in}
+use Rattle.gob_meaning.specs.Fold.{Folded, branch_counts, saturate_u64, is_record, is_bad, is_written, is_error}
+use Rattle.gob_meaning.specs.Fold.{rows_in, unrouted_in}
 use Rattle.gob_meaning.specs.Fold.{deliveries_of, before_stop_from, line_stop, left_after}
 use Rattle.gob_meaning.specs.Sums.{sum_of}
 use Rattle.gob_pipeline.specs.Made.{Buffers, AddsTo, is_place}

@@ -1,5 +1,6 @@
 //! The machine of one unit, which is fed the unit's bytes in pieces of any length.
-ghost use Rattle.std.specs.Prelude.{◌≡◌, ◌≤◌, ◌^◌, ◌+◌, ◌-◌, ◌*◌, ◌++◌, ◌||◌, [], None, true, false, length, not, IfOk, OnErr, OnOk};
+ghost use Rattle.std.specs.Prelude.{◌≡◌, ◌≤◌, ◌^◌, ◌+◌, ◌-◌, ◌*◌, ◌++◌, ◌||◌, [], None, true, false, length, not, IfOk};
+ghost use Rattle.std.specs.Prelude.{OnErr, OnOk};
 ghost use Rattle.gob_bytes.specs.Lines.{has_no_feed};
 ghost use Rattle.gob_plan.specs.declared.plan.Plan.{Plan as Told};
 ghost use Rattle.gob_pipeline.specs.Made.{Buffers};

@@ -1,5 +1,6 @@
 //! A plan, set up so that lines can be sent through it.
-ghost use Rattle.std.specs.Prelude.{◌≡◌, ◌&&◌, ◌++◌, ℕ, nat_eq, List, [], ◌∷◌, length, filter, true, None, Some, IfErr, IfOk};
+ghost use Rattle.std.specs.Prelude.{◌≡◌, ◌&&◌, ◌++◌, ℕ, nat_eq, List, [], ◌∷◌, length, filter, true, None, Some, IfErr};
+ghost use Rattle.std.specs.Prelude.{IfOk};
 ghost use Rattle.std.specs.List.{list_all};
 ghost use Rattle.gob_bytes.specs.Lines.{without_cr};
 ghost use Rattle.gob_plan.specs.Rows.{conforms};

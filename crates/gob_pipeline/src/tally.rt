@@ -1,13 +1,16 @@
 //! What lines make, counted and sent.
-ghost use Rattle.std.specs.Prelude.{◌≡◌, ◌<◌, ◌+◌, ◌*◌, ◌++◌, ℕ, List, [], ◌∷◌, true, count_by, length, map, sum_by, OnOk};
+ghost use Rattle.std.specs.Prelude.{◌≡◌, ◌<◌, ◌+◌, ◌*◌, ◌++◌, ℕ, List, [], ◌∷◌, true, count_by, length, map, sum_by};
+ghost use Rattle.std.specs.Prelude.{OnOk};
 ghost use Rattle.std.specs.List.{flat_map, list_all, range_with_len};
-ghost use Rattle.gob_meaning.specs.Fold.{branch_counts, delivery_of, is_bad, is_record, items_in, left_after, line_deliveries, line_stop};
+ghost use Rattle.gob_meaning.specs.Fold.{branch_counts, delivery_of, is_bad, is_record, items_in, left_after};
+ghost use Rattle.gob_meaning.specs.Fold.{line_deliveries, line_stop};
 ghost use Rattle.gob_meaning.specs.Fold.{rows_in, unrouted_in};
 ghost use Rattle.gob_meaning.specs.Items.{RowMade};
 ghost use Rattle.gob_branch.specs.ItemSpans.{item_value};
 ghost use Rattle.gob_meaning.specs.Sums.{both_branches, branch_sums, sum_of};
 ghost use Rattle.gob_pipeline.specs.Made.{AddsTo};
-ghost use Rattle.gob_pipeline.specs.Taking.{TakesLine, counts_of_line, fold_of_items, item_fits, line_of_end, one_line, one_more};
+ghost use Rattle.gob_pipeline.specs.Taking.{TakesLine, counts_of_line, fold_of_items, item_fits, line_of_end, one_line};
+ghost use Rattle.gob_pipeline.specs.Taking.{one_more};
 
 use crate::buffers::{Target, TargetBuffers};
 use crate::pipeline::{LineEnd, Pipeline, Workspace};
@@ -166,7 +169,8 @@ fn add_line(alloc: Global, counts: &mut Counts, end: LineEnd, items: &LineItems)
 }
 
 fn records_in(end: LineEnd) -> u64
-    ensures { (raw : List ℕ) (items : List RowMade) → result ≡ count_by (λ f. is_record f.made) (one_line 0 (line_of_end end raw items)) }
+    ensures { (raw : List ℕ) (items : List RowMade) → result
+        ≡ count_by (λ f. is_record f.made) (one_line 0 (line_of_end end raw items)) }
 {
     match end {
         LineEnd::Header => 0,
@@ -179,7 +183,8 @@ fn records_in(end: LineEnd) -> u64
 }
 
 fn bad_in(end: LineEnd) -> u64
-    ensures { (raw : List ℕ) (items : List RowMade) → result ≡ count_by (λ f. is_bad f.made) (one_line 0 (line_of_end end raw items)) }
+    ensures { (raw : List ℕ) (items : List RowMade) → result
+        ≡ count_by (λ f. is_bad f.made) (one_line 0 (line_of_end end raw items)) }
 {
     match end {
         LineEnd::Header => 0,
@@ -192,7 +197,8 @@ fn bad_in(end: LineEnd) -> u64
 }
 
 fn rows_in(end: LineEnd) -> u64
-    ensures { (raw : List ℕ) (items : List RowMade) → result ≡ sum_by (λ f. rows_in f.made) (one_line 0 (line_of_end end raw items)) }
+    ensures { (raw : List ℕ) (items : List RowMade) → result
+        ≡ sum_by (λ f. rows_in f.made) (one_line 0 (line_of_end end raw items)) }
 {
     match end {
         LineEnd::Header => 0,
@@ -202,7 +208,8 @@ fn rows_in(end: LineEnd) -> u64
 }
 
 fn unrouted_in(end: LineEnd) -> u64
-    ensures { (raw : List ℕ) (items : List RowMade) → result ≡ sum_by (λ f. unrouted_in f.made) (one_line 0 (line_of_end end raw items)) }
+    ensures { (raw : List ℕ) (items : List RowMade) → result
+        ≡ sum_by (λ f. unrouted_in f.made) (one_line 0 (line_of_end end raw items)) }
 {
     match end {
         LineEnd::Header => 0,

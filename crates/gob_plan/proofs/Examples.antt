@@ -41,7 +41,8 @@ pub values_of_kinds :
 values_of_kinds = (refl, refl, refl, refl, refl, refl)
 
 pub nulls :
-    map is_null (value.Null ∷ value.Bool false ∷ value.Int (pos 0) ∷ value.Text [] ∷ []) ≡ true ∷ false ∷ false ∷ false ∷ []
+    map is_null (value.Null ∷ value.Bool false ∷ value.Int (pos 0) ∷ value.Text [] ∷ []) ≡ true ∷ false ∷ false ∷ false
+    ∷ []
 nulls = refl
 
 -- ---- rows and columns

@@ -1,6 +1,8 @@
 -- Entries that are written out are read back.
-use Rattle.std.proofs.Common.{◌≡◌, ℕ, suc, ◌+◌, ◌<◌, ◌≤◌, Bool, true, false, cond, not, ◌&&◌, ◌||◌, nat_eq, List, [], ◌∷◌, ◌++◌}
-use Rattle.std.proofs.Common.{map, length, take, drop, refl, sym, ap, ◌∙◌, subst, arith, append_assoc, append-nil, Some, None}
+use Rattle.std.proofs.Common.{◌≡◌, ℕ, suc, ◌+◌, ◌<◌, ◌≤◌, Bool, true, false, cond, not, ◌&&◌, ◌||◌, nat_eq, List, []}
+use Rattle.std.proofs.Common.{◌∷◌, ◌++◌}
+use Rattle.std.proofs.Common.{map, length, take, drop, refl, sym, ap, ◌∙◌, subst, arith, append_assoc, append-nil, Some}
+use Rattle.std.proofs.Common.{None}
 use Rattle.std.proofs.Common.{option_map, Ok, encode_utf8_all}
 use Rattle.std.specs.Option.{option_and_then}
 use Rattle.std.specs.Str.{NonePass}
@@ -12,16 +14,20 @@ use Rattle.std.proofs.Math.Seq.{take-length}
 use Rattle.std.proofs.lemmas.Bool.{cond-true, cond-false, eqb-true, or_parts, and_from}
 use Rattle.std.proofs.lemmas.List.{take-append-le, drop_at}
 use Rattle.std.proofs.lemmas.Str.{chars-encodes, is_utf8-from_IsUtf8}
-use Rattle.gob_props.specs.Properties.{is_line_end, natural_from, natural_lines, is_blank, is_backslash, trimmed, is_comment}
+use Rattle.gob_props.specs.Properties.{is_line_end, natural_from, natural_lines, is_blank, is_backslash, trimmed}
+use Rattle.gob_props.specs.Properties.{is_comment}
 use Rattle.gob_props.specs.Properties.{is_passed_over, goes_on, part_of, with_line, logical_from, is_mark}
-use Rattle.gob_props.specs.Properties.{is_separator, key_length, without_mark, key_part, value_part, Character, meaning_of}
+use Rattle.gob_props.specs.Properties.{is_separator, key_length, without_mark, key_part, value_part, Character}
+use Rattle.gob_props.specs.Properties.{meaning_of}
 use Rattle.gob_props.specs.Properties.{first_character, unescaped, paired_up, entry_of, put_first, all_entries}
 use Rattle.gob_props.specs.Properties.{with_all, read_text, properties_of}
-use Rattle.gob_props.specs.Laws.{Written, needs_backslash, spelled_character, spelled, line_of, written, are_scalars, in_bytes}
+use Rattle.gob_props.specs.Laws.{Written, needs_backslash, spelled_character, spelled, line_of, written, are_scalars}
+use Rattle.gob_props.specs.Laws.{in_bytes}
 use Rattle.gob_props.specs.Laws.{EntriesReadBack}
 use Rattle.gob_props.proofs.NaturalLemmas.{natural_cut}
 use Rattle.gob_props.proofs.NaturalLaws.{after_feed}
-use Rattle.gob_props.proofs.LogicalLemmas.{goes_on_more, goes_on_none, part_whole, logical_start, logical_passed, later_done}
+use Rattle.gob_props.proofs.LogicalLemmas.{goes_on_more, goes_on_none, part_whole, logical_start, logical_passed}
+use Rattle.gob_props.proofs.LogicalLemmas.{later_done}
 use Rattle.gob_props.proofs.EscapeLemmas.{unescaped_step, unescaped_end}
 
 -- ---- how one character is spelled

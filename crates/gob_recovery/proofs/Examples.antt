@@ -1,5 +1,7 @@
 -- The worked examples of a commit.
-use Rattle.std.proofs.Common.{◌≡◌, ◌≢◌, inl, inr, ℕ, zero, suc, ◌+◌, ◌-◌, ◌≤◌, Bool, true, false, cond, ◌||◌, List, [], ◌∷◌, ◌++◌, take, drop, length, refl, sym, append_assoc, ap, subst, ◌∙◌, Some, None, codes, arith}
+use Rattle.std.proofs.Common.{◌≡◌, ◌≢◌, inl, inr, ℕ, zero, suc, ◌+◌, ◌-◌, ◌≤◌, Bool, true, false, cond, ◌||◌, List, []}
+use Rattle.std.proofs.Common.{◌∷◌, ◌++◌, take, drop, length, refl, sym, append_assoc, ap, subst, ◌∙◌, Some, None, codes}
+use Rattle.std.proofs.Common.{arith}
 use Rattle.std.specs.declared.option.Option.{Option}
 use Rattle.std.specs.Fmt.{decimal, digits}
 use Rattle.std.specs.List.{AllByRecursion, IsDistinct, list_any, flat_map}
@@ -7,15 +9,20 @@ use Rattle.std.specs.Str.{bytes_eq}
 use Rattle.std.proofs.lemmas.Bool.{true≢false}
 use Rattle.gob_bytes.specs.Lines.{ends_in_lf}
 use Rattle.gob_bytes.specs.Paths.{begins_with, staging, sequence_name}
-use Rattle.gob_device.specs.Disk.{Files, File, clean, no_files, put, after_create, after_append, after_sync, after_rename, after_remove, Torn}
+use Rattle.gob_device.specs.Disk.{Files, File, clean, no_files, put, after_create, after_append, after_sync}
+use Rattle.gob_device.specs.Disk.{after_rename, after_remove, Torn}
 use Rattle.gob_recovery.specs.Sequence.{CommitStep, move, remove, step_line, WellFormed, Reads, sequence_text}
-use Rattle.gob_recovery.specs.Settle.{do_steps, without_staging, can_do, Open, IsSettled, Settles, IsDamaged, sequence, lost, SettlesAs}
+use Rattle.gob_recovery.specs.Settle.{do_steps, without_staging, can_do, Open, IsSettled, Settles, IsDamaged, sequence}
+use Rattle.gob_recovery.specs.Settle.{lost, SettlesAs}
 use Rattle.gob_recovery.specs.Commits.{OnlyBelow, part_done}
-use Rattle.gob_recovery.specs.Examples.{steps, text, entry, calls, after_calls, stopped, committed, IsCommitted, WorkedCommit, BetweenMoves, WorkedDamage}
+use Rattle.gob_recovery.specs.Examples.{steps, text, entry, calls, after_calls, stopped, committed, IsCommitted}
+use Rattle.gob_recovery.specs.Examples.{WorkedCommit, BetweenMoves, WorkedDamage}
 use Rattle.gob_recovery.proofs.Again.{Off, turned}
 use Rattle.gob_recovery.proofs.Opened.{steps_still}
 use Rattle.gob_recovery.proofs.Settled.{cleaned_other, staged_free}
-use Rattle.gob_recovery.proofs.Commits.{apart_below, below_same, below_then, below_created, below_appended, below_synced, Opens, CanCommit, StepsGo, steps_go, closes_is, closed_settles, renamed_opens}
+use Rattle.gob_recovery.proofs.Commits.{apart_below, below_same, below_then, below_created, below_appended}
+use Rattle.gob_recovery.proofs.Commits.{below_synced, Opens, CanCommit, StepsGo, steps_go, closes_is, closed_settles}
+use Rattle.gob_recovery.proofs.Commits.{renamed_opens}
 
 abbrev job : List ℕ
 job = codes "j1"
@@ -29,7 +36,8 @@ abbrev AllStaged : List (Files → Files) → Type 0
 AllStaged [] = Unit {0}
 AllStaged (call ∷ cs) = Staged call × AllStaged cs
 
-stays_below : (n : ℕ) (cs : List (Files → Files)) (k : ℕ) (m : Files) → k ≤ n → AllStaged (take n cs) → OnlyBelow (staging job) m (after_calls (take k cs) m)
+stays_below : (n : ℕ) (cs : List (Files → Files)) (k : ℕ) (m : Files) → k ≤ n → AllStaged (take n cs)
+    → OnlyBelow (staging job) m (after_calls (take k cs) m)
 unfolding after_calls
 stays_below zero cs zero m less all = below_same (staging job) m
 stays_below zero cs (suc k) m less all = absurd (omega arith)
@@ -37,7 +45,8 @@ stays_below (suc n) [] zero m less all = below_same (staging job) m
 stays_below (suc n) [] (suc k) m less all = below_same (staging job) m
 stays_below (suc n) (call ∷ cs) zero m less all = below_same (staging job) m
 stays_below (suc n) (call ∷ cs) (suc k) m less all =
-    below_then (staging job) m (call m) (after_calls (take k cs) (call m)) (all.0 m) (stays_below n cs k (call m) (omega arith) all.1)
+    below_then (staging job) m (call m) (after_calls (take k cs) (call m)) (all.0 m)
+    (stays_below n cs k (call m) (omega arith) all.1)
 
 nine_staged : AllStaged (take 9 calls)
 nine_staged = (
@@ -76,15 +85,18 @@ stopped_below k less = stays_below 9 calls k entry less nine_staged
 entry_settled : IsSettled job entry
 entry_settled = record {
   closed = refl;
-  unstaged = λ name e. ap (λ b. cond b (Some (clean (codes "old\n"))) None) (turned (codes "j1/delta/1") name (apart_below (staging job) name (codes "j1/delta/1") e refl));
+  unstaged = λ name e. ap (λ b. cond b (Some (clean (codes "old\n"))) None)
+      (turned (codes "j1/delta/1") name (apart_below (staging job) name (codes "j1/delta/1") e refl));
 }
 
 before_opened : (n : Files) → OnlyBelow (staging job) entry n → SettlesAs job entry n
 before_opened n below = (staged_free job entry n entry_settled (λ name e. below name e)).1
 
-torn_staged : (n : Files) → Torn (codes "j1/stage/seq") (after_append (codes "j1/stage/seq") text) (stopped 7) n → OnlyBelow (staging job) entry n
+torn_staged : (n : Files) → Torn (codes "j1/stage/seq") (after_append (codes "j1/stage/seq") text) (stopped 7) n
+    → OnlyBelow (staging job) entry n
 torn_staged n torn = λ name e.
-    torn.others name (λ is. true≢false (sym (ap (begins_with (staging job)) is ∙ refl) ∙ e)) ∙ stopped_below 7 (omega arith) name e
+    torn.others name (λ is. true≢false (sym (ap (begins_with (staging job)) is ∙ refl) ∙ e))
+    ∙ stopped_below 7 (omega arith) name e
 
 -- ---- the sequence
 
@@ -94,7 +106,13 @@ spelled_is = refl
 
 fits_is : WellFormed job steps
 unfolding IsDistinct
-fits_is = record { each = refl; differ = ((refl, (refl, (refl, (refl, tt)))), ((refl, (refl, (refl, tt))), ((refl, (refl, tt)), ((refl, tt), (tt, tt))))) }
+fits_is = record {
+  each = refl;
+  differ = (
+    (refl, (refl, (refl, (refl, tt)))),
+    ((refl, (refl, (refl, tt))), ((refl, (refl, tt)), ((refl, tt), (tt, tt)))),
+  );
+}
 
 can_commit : CanCommit job steps (stopped 6)
 unfolding stopped after_calls after_create after_append after_sync
@@ -107,7 +125,9 @@ staged_there = ap (λ (t : List ℕ). Some (clean t)) (sym spelled_is)
 staged_others : (name : List ℕ) → bytes_eq name (codes "j1/stage/seq") ≡ false → stopped 9 name ≡ stopped 6 name
 unfolding stopped after_calls after_create after_append after_sync
 staged_others name e =
-    ap (λ b. cond b (stopped 9 (codes "j1/stage/seq")) (stopped 8 name)) e ∙ (ap (λ b. cond b (stopped 8 (codes "j1/stage/seq")) (stopped 7 name)) e ∙ ap (λ b. cond b (Some (clean [])) (stopped 6 name)) e)
+    ap (λ b. cond b (stopped 9 (codes "j1/stage/seq")) (stopped 8 name)) e
+    ∙ (ap (λ b. cond b (stopped 8 (codes "j1/stage/seq")) (stopped 7 name)) e
+    ∙ ap (λ b. cond b (Some (clean [])) (stopped 6 name)) e)
 
 opens : Opens job steps (stopped 6) (stopped 10)
 unfolding stopped after_calls
@@ -126,10 +146,12 @@ or_both : (x y : Bool) → (x || y) ≡ false → (x ≡ false) × (y ≡ false)
 or_both true y e = absurd (true≢false e)
 or_both false y e = (refl, e)
 
-split : (n j : ℕ) (cs : List (Files → Files)) (m : Files) → after_calls (take (n + j) cs) m ≡ after_calls (take j (drop n cs)) (after_calls (take n cs) m)
+split : (n j : ℕ) (cs : List (Files → Files)) (m : Files) → after_calls (take (n + j) cs) m ≡ after_calls
+    (take j (drop n cs)) (after_calls (take n cs) m)
 unfolding after_calls
 split zero j cs m = ap (λ k. after_calls (take k cs) m) (let e : 0 + j ≡ j = omega arith in e)
-split (suc n) j [] m = ap (λ k. after_calls (take k []) m) (one_more n j) ∙ sym (ap (λ cs. after_calls cs m) (none_left j))
+split (suc n) j [] m = ap (λ k. after_calls (take k []) m) (one_more n j)
+    ∙ sym (ap (λ cs. after_calls cs m) (none_left j))
 split (suc n) j (call ∷ cs) m = ap (λ k. after_calls (take k (call ∷ cs)) m) (one_more n j) ∙ split n j cs (call m)
 
 closes : after_calls (drop 10 calls) (stopped 10) ≡ part_done job steps (stopped 6)
@@ -143,17 +165,21 @@ later (suc zero) = (steps_go job steps (stopped 6) (stopped 10) 1 can_commit ope
 later (suc (suc zero)) = (steps_go job steps (stopped 6) (stopped 10) 2 can_commit opens).images
 later (suc (suc (suc zero))) = (steps_go job steps (stopped 6) (stopped 10) 3 can_commit opens).images
 later (suc (suc (suc (suc j)))) =
-    subst (λ cs. SettlesAs job committed (after_calls cs (after_calls (drop 10 calls) (stopped 10)))) (sym (none_left j))
-    (closed_settles job steps (stopped 6) (after_calls (drop 10 calls) (stopped 10)) can_commit (λ name e. ap (λ (m : Files). m name) closes)).1
+    subst (λ cs. SettlesAs job committed (after_calls cs (after_calls (drop 10 calls) (stopped 10))))
+    (sym (none_left j))
+    (closed_settles job steps (stopped 6) (after_calls (drop 10 calls) (stopped 10)) can_commit
+    (λ name e. ap (λ (m : Files). m name) closes)).1
 
 from_ten : (k : ℕ) → 10 ≤ k → SettlesAs job committed (stopped k)
 unfolding stopped
 from_ten k more =
     let split_up : after_calls (take k calls) entry ≡ after_calls (take (k - 10) (drop 10 calls)) (stopped 10) =
-    ap (λ n. after_calls (take n calls) entry) (let e : k ≡ 10 + (k - 10) = omega arith in e) ∙ split 10 (k - 10) calls entry in
+    ap (λ n. after_calls (take n calls) entry) (let e : k ≡ 10 + (k - 10) = omega arith in e)
+    ∙ split 10 (k - 10) calls entry in
     subst (SettlesAs job committed) (sym split_up) (later (k - 10))
 
-others_stay : (name : List ℕ) → list_any (bytes_eq name) (codes "j1/out/a.txt" ∷ codes "j1/state" ∷ codes "j1/delta/1" ∷ []) ≡ false
+others_stay : (name : List ℕ) → list_any (bytes_eq name) (codes "j1/out/a.txt" ∷ codes "j1/state" ∷ codes "j1/delta/1" ∷
+    []) ≡ false
     → begins_with (staging job) name ≡ false → committed name ≡ entry name
 unfolding committed
 others_stay name apart outside =
@@ -167,10 +193,12 @@ others_stay name apart outside =
         ((c.0, tt), tt),
       ),
     ) in
-    cleaned_other job (do_steps steps (stopped 6)) name outside ∙ (steps_still steps (stopped 6) name off ∙ stopped_below 6 (omega arith) name outside)
+    cleaned_other job (do_steps steps (stopped 6)) name outside
+    ∙ (steps_still steps (stopped 6) name off ∙ stopped_below 6 (omega arith) name outside)
 
 is_committed : IsCommitted committed
-unfolding committed without_staging do_steps stopped after_calls after_create after_append after_sync after_rename after_remove
+unfolding committed without_staging do_steps stopped after_calls after_create after_append after_sync after_rename
+    after_remove
 is_committed = record { published = refl; state = refl; gone = refl; others = others_stay }
 
 whole_is : stopped 14 ≡ part_done job steps (stopped 6)
@@ -199,7 +227,8 @@ between_moves = record {
   there = refl;
   waiting = refl;
   old = refl;
-  settles = subst (λ m. Settles job m committed) (sym eleven) (steps_go job steps (stopped 6) (stopped 10) 1 can_commit opens).settles;
+  settles = subst (λ m. Settles job m committed) (sym eleven)
+      (steps_go job steps (stopped 6) (stopped 10) 1 can_commit opens).settles;
 }
 
 -- ---- damage
@@ -212,13 +241,18 @@ last_ends (b ∷ c ∷ front) = last_ends (c ∷ front)
 sequence_ends : (ss : List CommitStep) → ends_in_lf (sequence_text ss) ≡ true
 unfolding sequence_text
 sequence_ends ss =
-    let front : List ℕ = (codes "gobblin-sequence 1\n" ++ flat_map step_line ss) ++ (codes "end " ++ decimal (length ss)) in
-    ap ends_in_lf (sym (append_assoc (codes "gobblin-sequence 1\n" ++ flat_map step_line ss) (codes "end " ++ decimal (length ss)) (10 ∷ []))) ∙ last_ends front
+    let front : List ℕ = (codes "gobblin-sequence 1\n" ++ flat_map step_line ss)
+    ++ (codes "end " ++ decimal (length ss)) in
+    ap ends_in_lf (sym (append_assoc (codes "gobblin-sequence 1\n" ++ flat_map step_line ss)
+    (codes "end " ++ decimal (length ss)) (10 ∷ []))) ∙ last_ends front
 
 pub worked_damage : WorkedDamage
 unfolding after_rename
 worked_damage = record {
-  cut = sequence (clean (codes "gobblin-sequence 1\nend 0")) refl (λ ss reads. true≢false (sym (ap ends_in_lf reads.spelled ∙ sequence_ends ss)));
-  lost = lost (move (codes "j1/stage/0-0/out/a.txt") (codes "j1/out/a.txt") ∷ []) (codes "j1/stage/state") (codes "j1/state") (remove (codes "j1/delta/1") ∷ [])
-      (record { file = clean text; here = refl; reads = record { spelled = sym spelled_is; fits = fits_is } }) refl refl;
+  cut = sequence (clean (codes "gobblin-sequence 1\nend 0")) refl
+      (λ ss reads. true≢false (sym (ap ends_in_lf reads.spelled ∙ sequence_ends ss)));
+  lost = lost (move (codes "j1/stage/0-0/out/a.txt") (codes "j1/out/a.txt") ∷ []) (codes "j1/stage/state")
+      (codes "j1/state") (remove (codes "j1/delta/1") ∷ [])
+      (record { file = clean text; here = refl; reads = record { spelled = sym spelled_is; fits = fits_is } }) refl
+      refl;
 }

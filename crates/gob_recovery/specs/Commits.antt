@@ -16,7 +16,8 @@ staged_sequence job = staging job ++ codes "seq"
 
 -- what is to be moved is there, and no crash takes of it
 abbrev pub AreClean : List CommitStep → Files → Type 0
-AreClean steps m = (source target : List ℕ) → Contains steps (move source target) → (bytes : List ℕ) × (m source ≡ Some (clean bytes))
+AreClean steps m = (source target : List ℕ) → Contains steps (move source target) → (bytes : List ℕ)
+    × (m source ≡ Some (clean bytes))
 
 -- what a map settles to before a commit's steps, and after them
 abbrev pub two_settled : List ℕ → List CommitStep → Files → List Files

@@ -26,11 +26,13 @@ is_staged job name = begins_with (staging job) name && not (bytes_eq name (stagi
 
 -- a file of the job that is neither staged nor the open sequence
 abbrev pub is_lasting : List ℕ → List ℕ → Bool
-is_lasting job name = begins_with (under job []) name && not (begins_with (staging job) name) && not (bytes_eq name (sequence_name job))
+is_lasting job name = begins_with (under job []) name && not (begins_with (staging job) name) && not
+    (bytes_eq name (sequence_name job))
 
 -- a step that a sequence of the job may have
 abbrev pub step_fits : List ℕ → CommitStep → Bool
-step_fits job (move source target) = is_staged job source && is_lasting job target && is_file_name source && is_file_name target
+step_fits job (move source target) = is_staged job source && is_lasting job target && is_file_name source &&
+    is_file_name target
 step_fits job (remove name) = is_lasting job name && is_file_name name
 
 abbrev pub names_in : CommitStep → List (List ℕ)
@@ -48,7 +50,8 @@ step_line (remove name) = words (codes "remove") (name ∷ [])
 
 -- the file of an open sequence
 unfoldable pub sequence_text : List CommitStep → List ℕ
-sequence_text steps = words (codes "gobblin-sequence") (codes "1" ∷ []) ++ flat_map step_line steps ++ numbered (codes "end") (length steps ∷ [])
+sequence_text steps = words (codes "gobblin-sequence") (codes "1" ∷ []) ++ flat_map step_line steps
+    ++ numbered (codes "end") (length steps ∷ [])
 
 -- these bytes read as these steps
 pub record Reads (job bytes : List ℕ) (steps : List CommitStep) : Type 0 where

@@ -42,7 +42,8 @@ after_finish job steps m = without_staging job (after_remove (sequence_name job)
 -- settling the map is defined, and gives this one
 abbrev pub Settles : List ℕ → Files → Files → Type 0
 Settles job m settled = ((m (sequence_name job) ≡ None) × (settled ≡ without_staging job m))
-    ⊎ ((steps : List CommitStep) × Open job m steps × (list_all (can_do m) steps ≡ true) × (settled ≡ after_finish job steps m))
+    ⊎ ((steps : List CommitStep) × Open job m steps × (list_all (can_do m) steps ≡ true)
+    × (settled ≡ after_finish job steps m))
 
 -- there is no open sequence, and nothing is staged
 pub record IsSettled (job : List ℕ) (m : Files) : Type 0 where
@@ -51,8 +52,11 @@ pub record IsSettled (job : List ℕ) (m : Files) : Type 0 where
 
 -- settling the map isn't defined, and this name is the one to blame: the sequence, or the first source that is lost
 pub data IsDamaged (job : List ℕ) (m : Files) : List ℕ → Type 0 where
-  sequence : (file : File) → m (sequence_name job) ≡ Some file → ((steps : List CommitStep) → Reads job (contents_of file) steps → ⊥) → IsDamaged job m (sequence_name job)
-  lost : (before : List CommitStep) (source target : List ℕ) (after : List CommitStep) → Open job m (before ++ move source target ∷ after) → list_all (can_do m) before ≡ true → can_do m (move source target) ≡ false → IsDamaged job m source
+  sequence : (file : File) → m (sequence_name job) ≡ Some file
+      → ((steps : List CommitStep) → Reads job (contents_of file) steps → ⊥) → IsDamaged job m (sequence_name job)
+  lost : (before : List CommitStep) (source target : List ℕ) (after : List CommitStep)
+      → Open job m (before ++ move source target ∷ after) → list_all (can_do m) before ≡ true
+      → can_do m (move source target) ≡ false → IsDamaged job m source
 
 -- each image of the map settles to an image of this one
 unfoldable pub SettlesAs : List ℕ → Files → Files → Type 0

@@ -2,8 +2,10 @@
 #![tactic(auto)]
 
 ghost use Rattle.gob_recovery.specs.Examples.{BetweenMoves, WorkedCommit, WorkedDamage};
-ghost use Rattle.gob_recovery.specs.Laws.{DamageIsOne, ImagesSettleAlike, OneSpelling, OpenedSettles, SettlesOrIsDamaged};
-ghost use Rattle.gob_recovery.specs.Laws.{SettlesToOne, SettlesToSettled, SettlingCanBeRepeated, StagingIsFree, StepsChangeOnce};
+ghost use Rattle.gob_recovery.specs.Laws.{DamageIsOne, ImagesSettleAlike, OneSpelling, OpenedSettles};
+ghost use Rattle.gob_recovery.specs.Laws.{SettlesOrIsDamaged};
+ghost use Rattle.gob_recovery.specs.Laws.{SettlesToOne, SettlesToSettled, SettlingCanBeRepeated, StagingIsFree};
+ghost use Rattle.gob_recovery.specs.Laws.{StepsChangeOnce};
 
 /// A sequence's text determines its steps.
 pub fn one_spelling_a_sequence()

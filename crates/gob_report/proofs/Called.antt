@@ -1,5 +1,6 @@
 -- Whole texts, in the parts that are written one after the other.
-use Rattle.std.proofs.Common.{◌≡◌, ℕ, zero, suc, length, refl, arith, Bool, if◌then◌else◌, List, [], ◌∷◌, ◌++◌, map, sym, ap, ◌∙◌, append_assoc, Some, None, codes}
+use Rattle.std.proofs.Common.{◌≡◌, ℕ, zero, suc, length, refl, arith, Bool, if◌then◌else◌, List, [], ◌∷◌, ◌++◌, map}
+use Rattle.std.proofs.Common.{sym, ap, ◌∙◌, append_assoc, Some, None, codes}
 use Rattle.std.specs.declared.option.Option.{Option}
 use Rattle.std.specs.List.{enumerate_from, flat_map, zip}
 use Rattle.gob_bytes.specs.Words.{words}

@@ -1,5 +1,6 @@
 -- Ranges counted by their pipelines.
-use Rattle.std.proofs.Common.{◌≡◌, ℕ, zero, suc, ◌+◌, ◌<◌, ◌≤◌, Bool, true, false, if◌then◌else◌, nat_eq, List, [], ◌∷◌, ◌++◌}
+use Rattle.std.proofs.Common.{◌≡◌, ℕ, zero, suc, ◌+◌, ◌<◌, ◌≤◌, Bool, true, false, if◌then◌else◌, nat_eq, List, [], ◌∷◌}
+use Rattle.std.proofs.Common.{◌++◌}
 use Rattle.std.proofs.Common.{length, drop, take, get_or, set, replicate, refl, sym, ap, ◌∙◌, arith}
 use Rattle.std.specs.List.{count_by, enumerate_from, flat_map, sum_by}
 use Rattle.std.proofs.lemmas.Bool.{eq-eqb, ne_eqb}
@@ -13,7 +14,8 @@ use Rattle.gob_texts.specs.Commands.{pipeline_line}
 use Rattle.gob_report.specs.Counted.{counted_from, made_by, made_in, range_line}
 
 -- what is to be added is told by its values
-pub counted_same : (s : ℕ) (ns : List ℕ) (f g : ℕ → ℕ) → ((k : ℕ) → f k ≡ g k) → counted_from s ns f ≡ counted_from s ns g
+pub counted_same : (s : ℕ) (ns : List ℕ) (f g : ℕ → ℕ) → ((k : ℕ) → f k ≡ g k)
+    → counted_from s ns f ≡ counted_from s ns g
 counted_same s [] f g same = refl
 counted_same s (n ∷ ns) f g same = (λ j. (n + same s j) ∷ counted_same (s + 1) ns f g same j)
 
@@ -114,7 +116,8 @@ done_counted old a b ds i d below is inv one =
     ∙ counted_same 0 a _ (made_by (d ∷ drop (i + 1) ds)) (λ k. sym (first k))
     ∙ ap (λ xs. counted_from 0 a (made_by xs)) (sym (at_drop ds i d below is)) ∙ inv
   where
-    first : (k : ℕ) → made_by (d ∷ drop (i + 1) ds) k ≡ (if nat_eq d.pipeline k then 1 else 0) + made_by (drop (i + 1) ds) k
+    first : (k : ℕ) → made_by (d ∷ drop (i + 1) ds) k ≡ (if nat_eq d.pipeline k then 1 else 0) + made_by
+        (drop (i + 1) ds) k
     first k = sum_by-cons (λ (e : Done). if nat_eq e.pipeline k then 1 else 0) d (drop (i + 1) ds)
 
 -- one partition more
@@ -144,7 +147,8 @@ lines_counted s at (p ∷ ps) =
     zero-plus : (n : ℕ) → 0 + n ≡ n
     zero-plus n = omega arith
 
-pub pipelines_pushed : (old new : List ℕ) (s : State) (counts zeros : List ℕ) → new ≡ old ++ flat_map range_line (enumerate_from 0 counts)
+pub pipelines_pushed : (old new : List ℕ) (s : State) (counts zeros : List ℕ) → new ≡ old
+    ++ flat_map range_line (enumerate_from 0 counts)
     → counts ≡ counted_from 0 zeros (made_in s.parts) → zeros ≡ replicate (length s.pipelines) 0
     → new ≡ old ++ flat_map (λ p. pipeline_line s p.0) (enumerate_from 0 s.pipelines)
 pipelines_pushed old new s counts zeros pushed counted begun =

@@ -1,5 +1,6 @@
 -- Lines and lists of lines, pushed piece by piece.
-use Rattle.std.proofs.Common.{◌≡◌, ℕ, ◌+◌, ◌<◌, Bool, List, [], ◌∷◌, ◌++◌, map, length, drop, get_or, refl, sym, ap, ◌∙◌}
+use Rattle.std.proofs.Common.{◌≡◌, ℕ, ◌+◌, ◌<◌, Bool, List, [], ◌∷◌, ◌++◌, map, length, drop, get_or, refl, sym, ap}
+use Rattle.std.proofs.Common.{◌∙◌}
 use Rattle.std.proofs.Common.{append_assoc}
 use Rattle.std.specs.List.{flat_map, zip}
 use Rattle.gob_bytes.specs.Words.{words}
@@ -55,5 +56,6 @@ pub unit_more : (old a b : List ℕ) (us : List WorkUnit) (rs : List UnitResult)
 unit_more old a b us rs cs i u r k bu br bc iu ir ik inv more =
     let later : List ℕ = units_lines (judged_by (drop (i + 1) us) (drop (i + 1) rs)) (drop (i + 1) cs) in
     ap (λ t. t ++ later) more ∙ append_assoc a (unit_lines k u (verdict_in r)) later
-    ∙ (λ j. a ++ units_lines (judged_by (sym (at_drop us i u bu iu) j) (sym (at_drop rs i r br ir) j)) (sym (at_drop cs i k bc ik) j))
+    ∙ (λ j. a ++ units_lines (judged_by (sym (at_drop us i u bu iu) j) (sym (at_drop rs i r br ir) j))
+    (sym (at_drop cs i k bc ik) j))
     ∙ inv

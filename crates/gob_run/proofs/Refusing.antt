@@ -1,5 +1,6 @@
 -- A run that is refused, or stopped, before its first pull: what it answers, and what it leaves.
-use Rattle.std.proofs.Common.{◌≡◌, ◌⊎◌, ⊎_elim, inl, inr, ℕ, List, [], ◌++◌, refl, sym, ap, subst, ◌∙◌, Some, None, IfSome}
+use Rattle.std.proofs.Common.{◌≡◌, ◌⊎◌, ⊎_elim, inl, inr, ℕ, List, [], ◌++◌, refl, sym, ap, subst, ◌∙◌, Some, None}
+use Rattle.std.proofs.Common.{IfSome}
 use Rattle.std.proofs.Common.{append-nil, option_map, arith, ◌≤◌}
 use Rattle.std.specs.List.{IsDistinct, flat_map}
 use Rattle.std.specs.declared.option.Option.{Option}

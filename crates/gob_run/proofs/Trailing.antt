@@ -118,7 +118,8 @@ published_among job held l groups d c e b w first names =
 
 -- some groups were committed, one after the other
 pub trail_of : (job : Job) (failing : List ℕ) (l : Loaded) (cut : Cut) (d c e : Disk) (s t : Supply)
-    → IsJob job.name job → TellsCut job l cut s → Began job.name l d c → Went (WentAlong job s.held l.state cut.units failing) c e
+    → IsJob job.name job → TellsCut job l cut s → Began job.name l d c
+    → Went (WentAlong job s.held l.state cut.units failing) c e
     → TrailIs job failing d s e t
 trail_of job failing l cut d c e s t right told b w =
     let go = w.holds.gone in

@@ -25,7 +25,8 @@ use Rattle.gob_ledger.specs.Units.{UnitsFit, span_of, too_long}
 use Rattle.gob_recovery.specs.Commits.{OnlyBelow}
 use Rattle.gob_recovery.specs.Settle.{IsSettled, Settles}
 use Rattle.gob_history.specs.Laws.{Lasting}
-use Rattle.gob_history.specs.Runs.{GroupsLeft, Ran, Readable, StoredChange, TrailOfRun, after_groups, done_in, run_units}
+use Rattle.gob_history.specs.Runs.{GroupsLeft, Ran, Readable, StoredChange, TrailOfRun, after_groups, done_in}
+use Rattle.gob_history.specs.Runs.{run_units}
 use Rattle.gob_history.specs.Runs.{run_verdicts, state_after, state_or_empty}
 use Rattle.gob_history.specs.Sound.{AllRecoverTo}
 use Rattle.gob_state.specs.Committed.{judged_by, verdicts_in}

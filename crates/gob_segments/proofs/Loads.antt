@@ -1,5 +1,7 @@
 -- What is known of a map whose changes were followed by their names.
-use Rattle.std.proofs.Common.{◌≡◌, ◌≢◌, ⊎_elim, ℕ, suc, ◌+◌, ◌^◌, ◌<◌, Bool, true, false, List, [], ◌∷◌, ◌++◌, length, refl, sym, ap, subst, ◌∙◌, Some, None, option_map, is_some, slice_get, get_or, take, drop, add-one, ◌≤◌, IfSome, IfOk, IfErr, inl, inr, arith}
+use Rattle.std.proofs.Common.{◌≡◌, ◌≢◌, ⊎_elim, ℕ, suc, ◌+◌, ◌^◌, ◌<◌, Bool, true, false, List, [], ◌∷◌, ◌++◌, length}
+use Rattle.std.proofs.Common.{refl, sym, ap, subst, ◌∙◌, Some, None, option_map, is_some, slice_get, get_or, take, drop}
+use Rattle.std.proofs.Common.{add-one, ◌≤◌, IfSome, IfOk, IfErr, inl, inr, arith}
 use Rattle.std.specs.declared.cmp.Ordering.TheVariants.{Less}
 use Rattle.std.specs.declared.option.Option.{Option}
 use Rattle.std.specs.declared.result.Result.{Result}
@@ -21,7 +23,8 @@ use Rattle.gob_ledger.proofs.DeltaNames.{name_above, not_itself_less}
 use Rattle.gob_ledger.proofs.Members.{none_in, first_in, later_in, in_cases}
 use Rattle.gob_ledger.proofs.OneDamage.{damaged_keeps_nothing, one_blamed}
 use Rattle.gob_ledger.proofs.OneState.{first_change, other_change}
-use Rattle.gob_segments.specs.Loading.{BlamesDamage, BlamesNext, BlamesSome, IsBase, IsKept, IsNext, LedTo, LoadDamageDue, LoadedFits, RoseIfLoadFailed, StopsAt, TellsNext}
+use Rattle.gob_segments.specs.Loading.{BlamesDamage, BlamesNext, BlamesSome, IsBase, IsKept, IsNext, LedTo}
+use Rattle.gob_segments.specs.Loading.{LoadDamageDue, LoadedFits, RoseIfLoadFailed, StopsAt, TellsNext}
 use Rattle.gob_device.proofs.Causes.{rose_after}
 use Rattle.gob_segments.proofs.Named.{change_named}
 use Rattle.gob_segments.specs.declared.change.Loaded.{Loaded}
@@ -82,7 +85,8 @@ led_on job m v s (name ∷ names) t order (u, bytes, named, holds, reads, rest) 
           ∙ sym (ap (delta_at job v s (u ∷ a.later)) named ∙ first_change job v s u a.later)))
           (λ k. a.texts n k
           ∙ sym (other_change job v s u a.later n
-          (λ e. not_itself_less n (subst (λ x. name_cmp x n ≡ Less) (named ∙ sym e) (name_above name names n order k)))))
+          (λ e. not_itself_less n (subst (λ x. name_cmp x n ≡ Less) (named ∙ sym e)
+          (name_above name names n order k)))))
           (in_cases name names n h);
       others = λ n out.
           other_change job v s u a.later n (λ e. out (first_in name names n (named ∙ sym e)))
@@ -99,7 +103,8 @@ no_file job m names name listing below out = cases (m name) refl
     cases None e = refl
     cases (Some f) e = absurd (out ((listing.exact name).1 (below, ap is_some e)))
 
-pub nothing_kept : (job : List ℕ) (m : Files) (names : List (List ℕ)) (l : Loaded) → contents_at m (state_name job) ≡ None
+pub nothing_kept : (job : List ℕ) (m : Files) (names : List (List ℕ)) (l : Loaded)
+    → contents_at m (state_name job) ≡ None
     → IsListing (delta_folder job) m names → names ≡ [] → l.state ≡ None → l.deltas ≡ 0 → l.version ≡ 2
     → IsKept job m l
 nothing_kept job m names l gone listing empty state deltas version = (
@@ -191,7 +196,8 @@ none_listed : (names : List (List ℕ)) → None ≡ slice_get names 0 → names
 none_listed [] e = refl
 none_listed (n ∷ names) e = absurd (let never : None ≡ Some n = e in cc)
 
-pub listed_damaged : (job folder blamed name : List ℕ) (names slice : List (List ℕ)) (o : Option (List ℕ)) (d : Option Disk)
+pub listed_damaged : (job folder blamed name : List ℕ) (names slice : List (List ℕ)) (o : Option (List ℕ))
+    (d : Option Disk)
     → folder ≡ delta_folder job → slice ≡ names → o ≡ slice_get slice 0 → o ≡ Some name → blamed ≡ name
     → IfSome d (λ x. contents_at x.files (state_name job) ≡ None) → IfSome d (λ x. IsListing folder x.files names)
     → IfSome d (λ x. StateDamaged job x.files blamed)
@@ -254,7 +260,8 @@ leads_all job v s t names i d past led =
 -- where going on stops, the name is to blame
 pub stops_next : (job : List ℕ) (v : Version) (s t : State) (names : List (List ℕ)) (i : ℕ) (name item : List ℕ)
     (d e : Option Disk) (f : LoadFault) → e ≡ d → i < length names → item ≡ get_or names i item → name ≡ item
-    → IfSome d (λ x. LeadOn job x.files v s (take i names) t) → BlamesNext job v t name e f → BlamesSome job v s names d f
+    → IfSome d (λ x. LeadOn job x.files v s (take i names) t) → BlamesNext job v t name e f
+    → BlamesSome job v s names d f
 stops_next job v s t names i name item d e load_fault.Failed same below is level led blames = tt
 stops_next job v s t names i name item d e load_fault.Memory same below is level led blames = tt
 stops_next job v s t names i name item d e (load_fault.Damaged blamed) same below is level led blames =

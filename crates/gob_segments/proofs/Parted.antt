@@ -1,5 +1,7 @@
 -- Partitions of a change that are put over a table, one after the other.
-use Rattle.std.proofs.Common.{◌≡◌, ◌⊎◌, inl, inr, ⊎_elim, ℕ, ◌+◌, ◌<◌, ◌≤◌, ◌^◌, Bool, true, false, cond, nat_lt, List, [], ◌∷◌, ◌++◌, map, length, refl, sym, ap, subst, ◌∙◌, Some, None, IfSome, unwrap_or, append_assoc, codes, arith}
+use Rattle.std.proofs.Common.{◌≡◌, ◌⊎◌, inl, inr, ⊎_elim, ℕ, ◌+◌, ◌<◌, ◌≤◌, ◌^◌, Bool, true, false, cond, nat_lt, List}
+use Rattle.std.proofs.Common.{[], ◌∷◌, ◌++◌, map, length, refl, sym, ap, subst, ◌∙◌, Some, None, IfSome, unwrap_or}
+use Rattle.std.proofs.Common.{append_assoc, codes, arith}
 use Rattle.std.specs.declared.cmp.Ordering.TheVariants.{Less}
 use Rattle.std.specs.declared.option.Option.{Option}
 use Rattle.std.specs.List.{AllByRecursion, Contains, filter, flat_map}
@@ -8,7 +10,8 @@ use Rattle.std.specs.Str.{bytes_eq}
 use Rattle.std.proofs.lemmas.Bool.{cases_Bool, cases_lt, ltb-false, true≢false}
 use Rattle.std.proofs.lemmas.List.Elements.{Contains-append_cases, Contains-append_left, Contains-append_right}
 use Rattle.std.proofs.lemmas.Option.{same_Some}
-use Rattle.gob_bytes.proofs.Tables.{at-with_name, at_from_member, less_apart, less_then, member_from_at, none_below, rising-with_name, rising_tail, same_name, same_tables, two_names}
+use Rattle.gob_bytes.proofs.Tables.{at-with_name, at_from_member, less_apart, less_then, member_from_at, none_below}
+use Rattle.gob_bytes.proofs.Tables.{rising-with_name, rising_tail, same_name, same_tables, two_names}
 use Rattle.gob_bytes.specs.Tables.{Table, at_name, name_cmp, names_of, with_name, IsInByteOrder}
 use Rattle.gob_ledger.specs.Marks.{Done, Marks, Span, Tiled}
 use Rattle.gob_ledger.specs.Next.{no_marks}
@@ -21,14 +24,16 @@ use Rattle.gob_ledger.proofs.Ranges.{done_below, order_members, owed_below, tile
 use Rattle.gob_marks.specs.Changed.{marks_in}
 use Rattle.gob_state.proofs.Along.{Along, OneMore, all_read, at_start, one_missing, one_more}
 use Rattle.gob_state.proofs.PartLemmas.{names_push, order_front}
-use Rattle.gob_state.proofs.Steps.{Pairing, behind_text, both_read, first_missing, is_there, no_more, not_even, passed, refused, second_missing}
+use Rattle.gob_state.proofs.Steps.{Pairing, behind_text, both_read, first_missing, is_there, no_more, not_even, passed}
+use Rattle.gob_state.proofs.Steps.{refused, second_missing}
 use Rattle.gob_state.specs.Parts.{head_text, IsHead, IsPart, NoPart, part_rest}
 use Rattle.gob_state.specs.Ranges.{AreMarks, NoRange, ranges_text}
 use Rattle.gob_state.specs.Reads.{Reads}
 use Rattle.gob_text.specs.Words.{GoesOnAtAll, IsName, TakesText}
 use Rattle.gob_segments.proofs.Put.{follow_itself, none_changed}
 use Rattle.gob_segments.proofs.PutLines.{ranges_some}
-use Rattle.gob_segments.specs.Applied.{AreParted, IsChange, MarksAfter, PartsAfter, change_rest, changed_entry, changed_table}
+use Rattle.gob_segments.specs.Applied.{AreParted, IsChange, MarksAfter, PartsAfter, change_rest, changed_entry}
+use Rattle.gob_segments.specs.Applied.{changed_table}
 
 -- ---- one partition
 
@@ -58,7 +63,8 @@ pub no_marks_are : (v : Version) (n : ℕ) → AreMarks v n no_marks
 no_marks_are v n = record { tiled = tiled_none; small = omega arith; indexed = λ d h. none_in d h }
 
 -- the marks of a partition that is known or not
-pub marks_are : (v : Version) (n : ℕ) (t : Table Marks) (part : List ℕ) → AreParted v n t → AreMarks v n (marks_in t part)
+pub marks_are : (v : Version) (n : ℕ) (t : Table Marks) (part : List ℕ) → AreParted v n t
+    → AreMarks v n (marks_in t part)
 marks_are v n t part parts = cases (at_name t part) refl
   where
     cases : (o : Option Marks) → at_name t part ≡ o → AreMarks v n (unwrap_or o no_marks)
@@ -93,12 +99,14 @@ none_named (e ∷ es) low q order less = (less_then q low e.0 less order.0, orde
 filter_rises : {X : Type 0} (p : List ℕ × X → Bool) (es : Table X) → IsInByteOrder (names_of es)
     → IsInByteOrder (names_of (filter p es))
 filter_rises p [] order = tt
-filter_rises {X} p (e ∷ es) order = elim (p e) as (λ b. IsInByteOrder (names_of (cond b (e ∷ filter p es) (filter p es)))) [
-  | true ↦ behind e es order
-  | false ↦ filter_rises p es (rising_tail e.0 (names_of es) order)
-]
+filter_rises {X} p (e ∷ es) order = elim (p e) as (λ b. IsInByteOrder
+    (names_of (cond b (e ∷ filter p es) (filter p es)))) [
+      | true ↦ behind e es order
+      | false ↦ filter_rises p es (rising_tail e.0 (names_of es) order)
+    ]
   where
-    low : (d : List ℕ × X) (ds : Table X) → IsInByteOrder (d.0 ∷ names_of ds) → IsInByteOrder (d.0 ∷ names_of (filter p ds))
+    low : (d : List ℕ × X) (ds : Table X) → IsInByteOrder (d.0 ∷ names_of ds)
+        → IsInByteOrder (d.0 ∷ names_of (filter p ds))
     low d [] o = tt
     low d (f ∷ fs) o = elim (p f) as (λ b. IsInByteOrder (d.0 ∷ names_of (cond b (f ∷ filter p fs) (filter p fs)))) [
       | true ↦ (o.0, low f fs o.1)
@@ -181,10 +189,12 @@ no_changes v n t old last parts order empty = record {
 not_among : (es : Table Marks) (q : List ℕ) → IsInByteOrder (names_of es ++ q ∷ []) → at_name es q ≡ None
 not_among [] q order = refl
 not_among (e ∷ es) q order =
-    ap (λ b. cond b (Some e.1) (at_name es q)) (two_names q e.0 (λ same. less_apart e.0 q (first_below e.0 (names_of es) q order) (sym same)))
+    ap (λ b. cond b (Some e.1) (at_name es q)) (two_names q e.0
+    (λ same. less_apart e.0 q (first_below e.0 (names_of es) q order) (sym same)))
     ∙ not_among es q (rising_tail e.0 (names_of es ++ q ∷ []) order)
   where
-    first_below : (x : List ℕ) (xs : List (List ℕ)) (q : List ℕ) → IsInByteOrder (x ∷ (xs ++ q ∷ [])) → name_cmp x q ≡ Less
+    first_below : (x : List ℕ) (xs : List (List ℕ)) (q : List ℕ) → IsInByteOrder (x ∷ (xs ++ q ∷ []))
+        → name_cmp x q ≡ Less
     first_below x xs q o = name_above x (xs ++ q ∷ []) q o (Contains-append_right xs (q ∷ []) q (first_in q [] q refl))
 
 at_push : (es : Table Marks) (e : List ℕ × Marks) (q : List ℕ) → at_name es e.0 ≡ None
@@ -282,7 +292,8 @@ one_more_change v n t old rest mid u last some there = record {
 
 whole_change : (v : Version) (n : ℕ) (t : Table Marks) (last rest mid new : List ℕ) (b : Bool)
     (o : Option (List ℕ × Marks))
-    → TakesText (codes "partition") rest mid b → b ≡ true → Reads (change_rest v t) (IsChange v n t last) NoRange mid new o
+    → TakesText (codes "partition") rest mid b → b ≡ true → Reads (change_rest v t) (IsChange v n t last) NoRange mid
+    new o
     → Reads (entry_text v t) (IsChange v n t last) NoRange rest new o
 whole_change v n t last rest mid new b o text taken r =
     behind_text (codes "partition") rest mid new b o (λ e. refl) text taken r
@@ -306,7 +317,8 @@ begun : (v : Version) (n : ℕ) (b m : Marks) → MarksAfter v n b m → 0 < m.n
 begun v n b m a = ⊎_elim (λ l. l)
     (λ low.
     let none = nothing_below m a.are.tiled low in
-    absurd (ranges_some (changed_marks b m) a.some (ap (filter (is_new b)) none.0) (ap (filter (is_new_owed b)) none.1)))
+    absurd (ranges_some (changed_marks b m) a.some (ap (filter (is_new b)) none.0)
+    (ap (filter (is_new_owed b)) none.1)))
     (cases_lt 0 m.next)
 
 order_then : (ns : List (List ℕ)) (x q : List ℕ) → IsInByteOrder (ns ++ x ∷ []) → name_cmp x q ≡ Less
@@ -428,10 +440,12 @@ table_after v n t old rest u last some order = record {
     follow : (part : List ℕ) (o : Option Marks) → at_name some.changed part ≡ o
         → MarksFollow (marks_in t part) (marks_in u part)
     follow part None e = subst (MarksFollow (marks_in t part))
-        (sym (ap (λ o. unwrap_or o no_marks) (some.at part ∙ option_none (at_name some.changed part) (at_name t part) e)))
+        (sym (ap (λ o. unwrap_or o no_marks) (some.at part ∙ option_none (at_name some.changed part) (at_name t part)
+        e)))
         (follow_itself (marks_in t part))
     follow part (Some k) e = subst (MarksFollow (marks_in t part))
-        (sym (ap (λ o. unwrap_or o no_marks) (some.at part ∙ option_some (at_name some.changed part) (at_name t part) k e)))
+        (sym (ap (λ o. unwrap_or o no_marks) (some.at part ∙ option_some (at_name some.changed part) (at_name t part) k
+        e)))
         (some.each (part, k) (member_from_at some.changed part k e)).1.follow
 
 only_these : (v : Version) (n : ℕ) (t : Table Marks) (old rest : List ℕ) (u : Table Marks) (last : List ℕ)
@@ -465,7 +479,8 @@ was_there v n t k q m parts a at none = cases (at_name t q) refl
     same : marks_in t q ≡ m
     same = unchanged (marks_in t q) m (marks_are v n t q parts).tiled (a.parts q m at).1.tiled
         (subst (MarksFollow (marks_in t q)) (ap (λ o. unwrap_or o no_marks) at) (a.follow q))
-        (not_positive (length (changed_marks (marks_in t q) m).finished + length (changed_marks (marks_in t q) m).owed) none)
+        (not_positive (length (changed_marks (marks_in t q) m).finished + length (changed_marks (marks_in t q) m).owed)
+        none)
 
     cases : (o : Option Marks) → at_name t q ≡ o → at_name t q ≡ Some m
     cases None e =
@@ -477,7 +492,8 @@ was_there v n t k q m parts a at none = cases (at_name t q) refl
 one_table : (v : Version) (n : ℕ) (t : Table Marks) (old rest : List ℕ) (u k : Table Marks) (last : List ℕ)
     (some : SomeChanges v n t old rest u last) → IsInByteOrder (names_of u) → PartsAfter v n t k
     → some.changed ≡ filter (has_changed t) k → u ≡ k
-one_table v n t old rest u k last some order a is = same_tables u k order a.names (λ q. some.at q ∙ cases q (at_name k q) refl)
+one_table v n t old rest u k last some order a is = same_tables u k order a.names
+    (λ q. some.at q ∙ cases q (at_name k q) refl)
   where
     left : (q : List ℕ) (o : Option Marks) → at_name k q ≡ o
         → at_name some.changed q ≡ option_and_then (λ x. cond (has_changed t (q, x)) (Some x) None) o
@@ -542,13 +558,15 @@ pub head_not_above : (v : Version) (n : ℕ) (t : Table Marks) (last name : List
     → (name_cmp last name ≡ Less → ⊥) → Reads (change_rest v t) (IsChange v n t last) NoRange old new None
 head_not_above v n t last name next old mid new o r is out =
     first_missing (change_pairing v n t last) old mid new None None
-    (refused old mid mid (name, next) None (is_there old mid o (name, next) r is) (λ p h. h.0) (λ h. out h.1) refl) refl refl
+    (refused old mid mid (name, next) None (is_there old mid o (name, next) r is) (λ p h. h.0) (λ h. out h.1) refl) refl
+    refl
 
 -- the ranges read over the marks of a partition
 pub over_marks : (v : Version) (n : ℕ) (t : Table Marks) (name named : List ℕ) (b : Marks) (mid new : List ℕ)
     (o : Option Marks) → b ≡ marks_in t named → named ≡ name
     → Reads (λ m. ranges_text v (changed_marks b m)) (MarksAfter v n b) NoRange mid new o
-    → Reads (λ m. ranges_text v (changed_marks (marks_in t name) m)) (MarksAfter v n (marks_in t name)) NoRange mid new o
+    → Reads (λ m. ranges_text v (changed_marks (marks_in t name) m)) (MarksAfter v n (marks_in t name)) NoRange mid new
+    o
 over_marks v n t name named b mid new o is level r =
     subst (λ x. Reads (λ m. ranges_text v (changed_marks x m)) (MarksAfter v n x) NoRange mid new o)
     (is ∙ ap (marks_in t) level) r
@@ -556,7 +574,8 @@ over_marks v n t name named b mid new o is level r =
 pub change_none : (v : Version) (n : ℕ) (t : Table Marks) (last name : List ℕ) (next : ℕ) (old mid new : List ℕ)
     (o : Option Marks)
     → Reads head_text (IsNextHead last) GoesOnAtAll old mid (Some (name, next))
-    → Reads (λ m. ranges_text v (changed_marks (marks_in t name) m)) (MarksAfter v n (marks_in t name)) NoRange mid new o
+    → Reads (λ m. ranges_text v (changed_marks (marks_in t name) m)) (MarksAfter v n (marks_in t name)) NoRange mid new
+    o
     → o ≡ None → Reads (change_rest v t) (IsChange v n t last) NoRange old new None
 change_none v n t last name next old mid new o head r none =
     second_missing (change_pairing v n t last) old mid new (name, next) None None head
@@ -565,7 +584,8 @@ change_none v n t last name next old mid new o head r none =
 pub change_other : (v : Version) (n : ℕ) (t : Table Marks) (last name : List ℕ) (next : ℕ) (old mid new : List ℕ)
     (o : Option Marks) (m : Marks)
     → Reads head_text (IsNextHead last) GoesOnAtAll old mid (Some (name, next))
-    → Reads (λ m. ranges_text v (changed_marks (marks_in t name) m)) (MarksAfter v n (marks_in t name)) NoRange mid new o
+    → Reads (λ m. ranges_text v (changed_marks (marks_in t name) m)) (MarksAfter v n (marks_in t name)) NoRange mid new
+    o
     → o ≡ Some m → (m.next ≡ next → ⊥) → Reads (change_rest v t) (IsChange v n t last) NoRange old new None
 change_other v n t last name next old mid new o m head r some apart =
     second_missing (change_pairing v n t last) old mid new (name, next) None None head
@@ -574,7 +594,8 @@ change_other v n t last name next old mid new o m head r some apart =
 pub change_there : (v : Version) (n : ℕ) (t : Table Marks) (last name : List ℕ) (next : ℕ) (old mid new : List ℕ)
     (o : Option Marks) (m : Marks)
     → Reads head_text (IsNextHead last) GoesOnAtAll old mid (Some (name, next))
-    → Reads (λ m. ranges_text v (changed_marks (marks_in t name) m)) (MarksAfter v n (marks_in t name)) NoRange mid new o
+    → Reads (λ m. ranges_text v (changed_marks (marks_in t name) m)) (MarksAfter v n (marks_in t name)) NoRange mid new
+    o
     → o ≡ Some m → m.next ≡ next → Reads (change_rest v t) (IsChange v n t last) NoRange old new (Some (name, m))
 change_there v n t last name next old mid new o m head r some level =
     let there = is_there mid new o m r some in

@@ -1,5 +1,7 @@
 -- The pipelines after a change.
-use Rattle.std.proofs.Common.{◌≡◌, ◌⊎◌, inl, inr, ⊎_elim, ℕ, ◌+◌, ◌<◌, ◌≤◌, ◌^◌, Bool, true, false, ◌||◌, List, [], ◌∷◌, ◌++◌, length, drop, refl, sym, ap, subst, ◌∙◌, Some, None, append_assoc, append-nil, codes, arith}
+use Rattle.std.proofs.Common.{◌≡◌, ◌⊎◌, inl, inr, ⊎_elim, ℕ, ◌+◌, ◌<◌, ◌≤◌, ◌^◌, Bool, true, false, ◌||◌, List, [], ◌∷◌}
+use Rattle.std.proofs.Common.{◌++◌, length, drop, refl, sym, ap, subst, ◌∙◌, Some, None, append_assoc, append-nil}
+use Rattle.std.proofs.Common.{codes, arith}
 use Rattle.std.specs.declared.option.Option.{Option}
 use Rattle.std.specs.List.{AllByRecursion, IsDistinct, flat_map, list_any}
 use Rattle.std.specs.Str.{bytes_eq}
@@ -118,7 +120,8 @@ each_first : (P : List ℕ → Type 0) (xs : List (List ℕ)) (p : List ℕ) →
 each_first P [] p a = a.0
 each_first P (x ∷ xs) p a = each_first P xs p a.1
 
-last_kept : (ps qs : List (List ℕ)) (p : List ℕ) → qs ≡ ps ++ p ∷ [] → AllByRecursion IsKeptPipeline qs → IsKeptPipeline p
+last_kept : (ps qs : List (List ℕ)) (p : List ℕ) → qs ≡ ps ++ p ∷ [] → AllByRecursion IsKeptPipeline qs
+    → IsKeptPipeline p
 last_kept ps qs p is all = each_first IsKeptPipeline ps p (subst (AllByRecursion IsKeptPipeline) is all)
 
 pub none_there : (ps : List (List ℕ)) (old mid new : List ℕ) (o : Option ℕ) (count : ℕ) (q : Option (List ℕ))
@@ -173,7 +176,8 @@ came_before ps old mid new o count q p r is some read there known = record {
   read = λ qs after f g e. absurd (⊎_elim
       (λ t. some (same_count o count 0 is t.0))
       (λ t.
-      let same : p ≡ t.1 = same_Some p t.1 (sym there ∙ (read.read t.1 after (last_kept ps qs t.1 t.2 f.apart.0) tt t.3).0) in
+      let same : p ≡ t.1 = same_Some p t.1 (sym there ∙ (read.read t.1 after (last_kept ps qs t.1 t.2 f.apart.0) tt
+      t.3).0) in
       true≢false (sym known ∙ ap (λ x. list_any (bytes_eq x) ps) same
       ∙ last_differs ps t.1 (subst (IsDistinct bytes_eq) t.2 f.apart.1)))
       (told ps qs old mid after o r f e));
@@ -181,7 +185,8 @@ came_before ps old mid new o count q p r is some read there known = record {
 
 pub one_came : (ps : List (List ℕ)) (old mid new : List ℕ) (o : Option ℕ) (count : ℕ) (q : Option (List ℕ)) (p : List ℕ)
     (all : List (List ℕ)) → AreApart ps → CountReads old mid o → o ≡ Some count → (count ≡ 0 → ⊥) → count ≡ 1
-    → OneReads mid new q → q ≡ Some p → list_any (bytes_eq p) ps ≡ false → all ≡ ps ++ p ∷ [] → Later ps old new (Some all)
+    → OneReads mid new q → q ≡ Some p → list_any (bytes_eq p) ps ≡ false → all ≡ ps ++ p ∷ []
+    → Later ps old new (Some all)
 one_came ps old mid new o count q p all apart r is some one read there fresh whole =
     subst (λ x. Later ps old new (Some x)) (sym whole) (record {
       spelled = (

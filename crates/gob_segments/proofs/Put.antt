@@ -1,7 +1,9 @@
 -- Ranges of a change that are put over marks, one after the other.
-use Rattle.std.proofs.Common.{◌≡◌, ◌⊎◌, inl, inr, ⊎_elim, ℕ, ◌+◌, ◌<◌, ◌≤◌, Bool, true, false, cond, not, nat_le, nat_lt, List, [], ◌∷◌, ◌++◌, map, length, refl, sym, ap, subst, ◌∙◌, append-nil, arith}
+use Rattle.std.proofs.Common.{◌≡◌, ◌⊎◌, inl, inr, ⊎_elim, ℕ, ◌+◌, ◌<◌, ◌≤◌, Bool, true, false, cond, not, nat_le}
+use Rattle.std.proofs.Common.{nat_lt, List, [], ◌∷◌, ◌++◌, map, length, refl, sym, ap, subst, ◌∙◌, append-nil, arith}
 use Rattle.std.specs.List.{Contains, filter, list_any}
-use Rattle.std.proofs.lemmas.Bool.{and_parts, cases_Bool, cases_lt, leb-true, le-ltb, lt-ltb, ltb-true, ltb-false, not-true, not_from_false, true≢false}
+use Rattle.std.proofs.lemmas.Bool.{and_parts, cases_Bool, cases_lt, leb-true, le-ltb, lt-ltb, ltb-true, ltb-false}
+use Rattle.std.proofs.lemmas.Bool.{not-true, not_from_false, true≢false}
 use Rattle.std.proofs.lemmas.List.Elements.{Contains-append_cases, Contains-append_left, Contains-append_right}
 use Rattle.gob_ledger.specs.Marks as marks
 use Rattle.gob_ledger.specs.Marks.{Marks, Span, InOrder, Tiled, done_spans, has, times_covered}
@@ -11,8 +13,11 @@ use Rattle.gob_ledger.specs.Units.{same_span}
 use Rattle.gob_ledger.specs.Delta.{MarksFollow, changed_marks}
 use Rattle.gob_ledger.proofs.InLine.{span_in}
 use Rattle.gob_ledger.proofs.Members.{none_in, first_in, later_in, in_cases, in_filter, filter_in, in_map, map_in}
-use Rattle.gob_ledger.proofs.Merging.{any_done, any_span, done_any, filter_order, is_new, is_new_owed, same_sorted, span_any, spans_in, starts_apart}
-use Rattle.gob_ledger.proofs.Ranges.{covered-is, done_below, inside, order_append, order_filter, order_from, order_members, owed_below, owed_free, same_itself, span_is, tiled_done, tiled_owed, times, times_some, within}
+use Rattle.gob_ledger.proofs.Merging.{any_done, any_span, done_any, filter_order, is_new, is_new_owed, same_sorted}
+use Rattle.gob_ledger.proofs.Merging.{span_any, spans_in, starts_apart}
+use Rattle.gob_ledger.proofs.Ranges.{covered-is, done_below, inside, order_append, order_filter, order_from}
+use Rattle.gob_ledger.proofs.Ranges.{order_members, owed_below, owed_free, same_itself, span_is, tiled_done, tiled_owed}
+use Rattle.gob_ledger.proofs.Ranges.{times, times_some, within}
 use Rattle.gob_ledger.proofs.Reading.{gathered}
 use Rattle.gob_ledger.proofs.StateLines.{Range, lo_of, mixed, mixed_rises, put_range, rises_from}
 use Rattle.gob_ledger.proofs.Tiling.{in_insert, insert_in}
@@ -31,7 +36,8 @@ filter_push : {X : Type 0} (p : X → Bool) (xs : List X) (x : X) → p x ≡ tr
     → filter p (xs ++ x ∷ []) ≡ filter p xs ++ x ∷ []
 filter_push p [] x e = ap (λ b. cond b (x ∷ []) []) e
 filter_push {X} p (y ∷ ys) x e = elim (p y) as
-    (λ b. cond b (y ∷ filter p (ys ++ x ∷ [])) (filter p (ys ++ x ∷ [])) ≡ cond b (y ∷ filter p ys) (filter p ys) ++ x ∷ []) [
+    (λ b. cond b (y ∷ filter p (ys ++ x ∷ [])) (filter p (ys ++ x ∷ [])) ≡ cond b (y ∷ filter p ys) (filter p ys)
+    ++ x ∷ []) [
       | true ↦ ap (λ (zs : List X). y ∷ zs) (filter_push p ys x e)
       | false ↦ filter_push p ys x e
     ]
@@ -60,7 +66,8 @@ put_push : (r q : Range) (rs : List Range) → lo_of r < lo_of q
     → put_range r (rs ++ q ∷ []) ≡ put_range r rs ++ q ∷ []
 put_push r q [] below = ap (λ b. cond b (r ∷ q ∷ []) (q ∷ r ∷ [])) (lt-ltb (lo_of r) (lo_of q) below)
 put_push r q (x ∷ rs) below = elim (nat_lt (lo_of r) (lo_of x)) as
-    (λ b. cond b (r ∷ x ∷ (rs ++ q ∷ [])) (x ∷ put_range r (rs ++ q ∷ [])) ≡ cond b (r ∷ x ∷ rs) (x ∷ put_range r rs) ++ q ∷ []) [
+    (λ b. cond b (r ∷ x ∷ (rs ++ q ∷ [])) (x ∷ put_range r (rs ++ q ∷ [])) ≡ cond b (r ∷ x ∷ rs) (x ∷ put_range r rs)
+    ++ q ∷ []) [
       | true ↦ refl
       | false ↦ ap (λ (ys : List Range). x ∷ ys) (put_push r q rs below)
     ]
@@ -265,7 +272,8 @@ same_none {X} p (x ∷ xs) none =
 -- marks have changed in nothing from themselves
 pub none_changed : (m : Marks) → changed_marks m m ≡ record { next = m.next; finished = []; owed = [] }
 none_changed m =
-    let done : (changed_marks m m).finished ≡ [] = same_none (is_new m) m.finished (λ d h. ap not (done_any d m.finished h)) in
+    let done : (changed_marks m m).finished ≡ [] = same_none (is_new m) m.finished
+    (λ d h. ap not (done_any d m.finished h)) in
     let owed : (changed_marks m m).owed ≡ [] = same_none (is_new_owed m) m.owed (λ s h. ap not (span_any s m.owed h)) in
     λ i. record { next = m.next; finished = done i; owed = owed i }
 
@@ -329,12 +337,14 @@ low_owed v n b m from xs p s h =
     (subst (λ (x : Marks). Contains x.owed s) (sym (parted b m p.are.tiled)) h)))
 
 -- an earlier range ends where the later marks do, or before
-pub done_low : (b m : Marks) → Tiled b → MarksFollow b m → (d : marks.Done) → Contains b.finished d → d.span.lo < d.span.hi × d.span.hi ≤ m.next
+pub done_low : (b m : Marks) → Tiled b → MarksFollow b m → (d : marks.Done) → Contains b.finished d
+    → d.span.lo < d.span.hi × d.span.hi ≤ m.next
 done_low b m tiled follow d h =
     let r = done_below b tiled d.span (map_in (λ (e : marks.Done). e.span) b.finished d h) in
     let next = follow.next in (r.0, omega (arith, r.1, next))
 
-pub owed_low : (b m : Marks) → Tiled b → MarksFollow b m → (s : Span) → Contains b.owed s → (s.lo < s.hi) × (s.hi ≤ m.next)
+pub owed_low : (b m : Marks) → Tiled b → MarksFollow b m → (s : Span) → Contains b.owed s → (s.lo < s.hi)
+    × (s.hi ≤ m.next)
 owed_low b m tiled follow s h =
     let below = owed_below b tiled s h in
     let next = follow.next in
@@ -357,7 +367,8 @@ grows_open v n b m from xs s tiled p at some =
         new_owed = λ o h. ⊎_elim
             (λ k. follow.new_owed o k)
             (λ k. ⊎_elim
-            (λ same. inr (let next = follow.next in let level : s.lo ≡ o.lo = ap (λ (x : Span). x.lo) same in omega (arith, next, level, at)))
+            (λ same. inr (let next = follow.next in let level : s.lo ≡ o.lo = ap (λ (x : Span). x.lo) same in
+            omega (arith, next, level, at)))
             (λ l. none_in o l) (in_cases s [] o k))
             (Contains-append_cases m.owed (s ∷ []) o h);
       };
@@ -385,7 +396,8 @@ grows_done v n b m from xs d tiled p at some =
         new_done = λ e h. ⊎_elim
             (λ k. follow.new_done e k)
             (λ k. ⊎_elim
-            (λ same. inr (inr (let next = follow.next in let level : d.span.lo ≡ e.span.lo = ap (λ (x : marks.Done). x.span.lo) same in omega (arith, next, level, at))))
+            (λ same. inr (inr (let next = follow.next in let level : d.span.lo ≡ e.span.lo =
+            ap (λ (x : marks.Done). x.span.lo) same in omega (arith, next, level, at))))
             (λ l. none_in e l) (in_cases d [] e k))
             (Contains-append_cases m.finished (d ∷ []) e h);
         new_owed = follow.new_owed;
@@ -414,7 +426,8 @@ not_both : (m : Marks) → Tiled m → (d : marks.Done) → Contains m.finished 
 not_both m tiled d h k = starts_apart m tiled d d.span h k refl
 
 grows_commit : (v : Version) (n : ℕ) (b m : Marks) (from : ℕ) (xs : List Range) (d : marks.Done) → Tiled b
-    → Put v n b m from xs → from ≤ d.span.lo → Contains m.owed d.span → Grows b m (with_done d.pipeline d.span m) (inl d)
+    → Put v n b m from xs → from ≤ d.span.lo → Contains m.owed d.span
+    → Grows b m (with_done d.pipeline d.span m) (inl d)
 grows_commit v n b m from xs d tiled p low owing =
     let follow = p.follow in
     let tm = p.are.tiled in
@@ -428,7 +441,8 @@ grows_commit v n b m from xs d tiled p low owing =
     (owed_or_changed b m d.span tm owing) in
     let here : Contains after.finished d = insert_in d m.finished d (inl refl) in
     let done : (changed_marks b after).finished ≡ (changed_marks b m).finished ++ d ∷ [] =
-    same_sorted (λ (e : marks.Done). e.span) 0 0 (changed_marks b after).finished ((changed_marks b m).finished ++ d ∷ [])
+    same_sorted (λ (e : marks.Done). e.span) 0 0 (changed_marks b after).finished
+    ((changed_marks b m).finished ++ d ∷ [])
     (filter_order (is_new b) 0 after.finished ta.finished)
     (subst (InOrder 0) (sym (spans_push (changed_marks b m).finished d))
     (order_append 0 (spans_in (changed_marks b m).finished) d.span

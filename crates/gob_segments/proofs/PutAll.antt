@@ -1,5 +1,6 @@
 -- Where the marks after a whole change are known, each of its ranges can be put, and no others make them.
-use Rattle.std.proofs.Common.{◌≡◌, ◌⊎◌, inl, inr, ⊎_elim, ℕ, ◌+◌, ◌<◌, ◌≤◌, Bool, true, false, cond, nat_lt, List, [], ◌∷◌, ◌++◌, map, refl, sym, ap, subst, ◌∙◌, arith}
+use Rattle.std.proofs.Common.{◌≡◌, ◌⊎◌, inl, inr, ⊎_elim, ℕ, ◌+◌, ◌<◌, ◌≤◌, Bool, true, false, cond, nat_lt, List, []}
+use Rattle.std.proofs.Common.{◌∷◌, ◌++◌, map, refl, sym, ap, subst, ◌∙◌, arith}
 use Rattle.std.specs.List.{Contains, list_any}
 use Rattle.std.proofs.lemmas.Bool.{cases_Bool, cases_lt, le-ltb, lt-ltb}
 use Rattle.std.proofs.lemmas.List.Elements.{Contains-append_cases, Contains-append_left, Contains-append_right}
@@ -10,13 +11,15 @@ use Rattle.gob_ledger.specs.Units.{same_span}
 use Rattle.gob_ledger.specs.Delta.{MarksFollow, changed_marks}
 use Rattle.gob_ledger.proofs.Members.{none_in, first_in, later_in, in_cases, in_map, map_in}
 use Rattle.gob_ledger.proofs.Merging.{merged, merged_is, span_any, spans_in}
-use Rattle.gob_ledger.proofs.Ranges.{covered-is, done_below, inside, one_in, order_members, owed_below, owed_free, times, times_some, within}
+use Rattle.gob_ledger.proofs.Ranges.{covered-is, done_below, inside, one_in, order_members, owed_below, owed_free}
+use Rattle.gob_ledger.proofs.Ranges.{times, times_some, within}
 use Rattle.gob_ledger.proofs.Reading.{gathered}
 use Rattle.gob_ledger.proofs.StateLines.{Range, lo_of, rises_from}
 use Rattle.gob_state.proofs.RangeLemmas.{line_of}
 use Rattle.gob_state.specs.Ranges.{AreMarks, IndexIs, IsRangeLine}
 use Rattle.gob_segments.proofs.Changed.{one_holds}
-use Rattle.gob_segments.proofs.Put.{Between, Put, between, changed_done, changed_owed, changed_ranges, done_low, old_or_changed, owed_low, owed_or_changed, parted, ranges_rise}
+use Rattle.gob_segments.proofs.Put.{Between, Put, between, changed_done, changed_owed, changed_ranges, done_low}
+use Rattle.gob_segments.proofs.Put.{old_or_changed, owed_low, owed_or_changed, parted, ranges_rise}
 use Rattle.gob_segments.specs.Applied.{CanPut, MarksAfter}
 
 -- ---- which range covers an offset
@@ -183,7 +186,8 @@ owed_or_next : (v : Version) (n : ℕ) (b m k : Marks) (from : ℕ) (xs : List R
     → Next v n b m k from xs (inl d) zs → (list_any (same_span d.span) m.owed ≡ true) ⊎ (d.span.lo ≡ m.next)
 owed_or_next v n b m k from xs d zs x = ⊎_elim
     (λ less. inl (span_any d.span m.owed (⊎_elim done owed (covering d.span.lo m x.put.are.tiled less))))
-    (λ over. inr (next_begins v n b m k from xs (inl d) zs x over (let a = ends.0 in let e = ends.1 in omega (arith, a, e))))
+    (λ over. inr (next_begins v n b m k from xs (inl d) zs x over
+    (let a = ends.0 in let e = ends.1 in omega (arith, a, e))))
     (cases_lt d.span.lo m.next)
   where
     here : Contains k.finished d × (Contains b.finished d → ⊥)

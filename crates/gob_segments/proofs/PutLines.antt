@@ -1,5 +1,6 @@
 -- Lines of ranges that are put over a partition's marks.
-use Rattle.std.proofs.Common.{◌≡◌, ◌⊎◌, inl, inr, ⊎_elim, ℕ, ◌+◌, ◌<◌, ◌≤◌, Bool, true, false, nat_lt, List, [], ◌∷◌, ◌++◌, length, refl, sym, ap, subst, ◌∙◌, Some, None, append_assoc, arith}
+use Rattle.std.proofs.Common.{◌≡◌, ◌⊎◌, inl, inr, ⊎_elim, ℕ, ◌+◌, ◌<◌, ◌≤◌, Bool, true, false, nat_lt, List, [], ◌∷◌}
+use Rattle.std.proofs.Common.{◌++◌, length, refl, sym, ap, subst, ◌∙◌, Some, None, append_assoc, arith}
 use Rattle.std.specs.List.{Contains, flat_map}
 use Rattle.std.proofs.lemmas.Bool.{lt-ltb, true≢false}
 use Rattle.std.proofs.lemmas.List.Elements.{Contains-append_cases}
@@ -15,7 +16,8 @@ use Rattle.gob_ledger.proofs.Ranges.{owed_below}
 use Rattle.gob_ledger.proofs.Reading.{gathered}
 use Rattle.gob_ledger.proofs.StateLines.{Range, lo_of}
 use Rattle.gob_state.proofs.Along.{Along, OneMore, all_read, at_start, one_missing, one_more}
-use Rattle.gob_state.proofs.RangeLemmas.{begins_line, line_back, line_of, range_bytes, range_of, range_spelled, ranges_spelled, spelled_back}
+use Rattle.gob_state.proofs.RangeLemmas.{begins_line, line_back, line_of, range_bytes, range_of, range_spelled}
+use Rattle.gob_state.proofs.RangeLemmas.{ranges_spelled, spelled_back}
 use Rattle.gob_state.proofs.Steps.{no_more}
 use Rattle.gob_state.specs.Ranges.{AreMarks, BeginsRange, IsRangeLine, NoRange, range_text, ranges_text}
 use Rattle.gob_state.specs.Reads.{Reads}
@@ -85,7 +87,8 @@ next_refused v n from m rest mid any l r never = record {
 
 one_more_range : (v : Version) (n : ℕ) (b : Marks) (old rest : List ℕ) (m : Marks) (from : ℕ)
     (some : SomePut v n b old rest m from)
-    → BeginsRange rest → OneMore (range_bytes v) (FitsNext v n from m) GoesOnAtAll (Whole v n b) NoRange rest some.ranges
+    → BeginsRange rest → OneMore (range_bytes v) (FitsNext v n from m) GoesOnAtAll (Whole v n b) NoRange rest
+    some.ranges
 one_more_range v n b old rest m from some begins = record {
   more = λ after w g e. ⊎_elim
       (λ h. g.no_done h.0 (sym e ∙ h.1))
@@ -171,7 +174,8 @@ no_ranges v n b m (r ∷ xs) p = absurd (let less = p.below r (first_in r xs r r
 
 -- no line of a range stands at the front, and none stood before: no change is read
 pub none_put_read : (v : Version) (n : ℕ) (b : Marks) (old rest new : List ℕ) (m : Marks) (from : ℕ)
-    → SomePut v n b old rest m from → NoRange rest → from ≡ 0 → Reads (Spelled v b) (MarksAfter v n b) NoRange old new None
+    → SomePut v n b old rest m from → NoRange rest → from ≡ 0
+    → Reads (Spelled v b) (MarksAfter v n b) NoRange old new None
 none_put_read v n b old rest new m from some none start = record {
   spelled = tt;
   read = λ k after f g e.

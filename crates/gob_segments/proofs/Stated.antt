@@ -1,5 +1,6 @@
 -- The text of a change: which state it leads to.
-use Rattle.std.proofs.Common.{◌≡◌, ◌⊎◌, inl, inr, ⊎_elim, ℕ, ◌+◌, ◌<◌, ◌≤◌, ◌^◌, Bool, true, false, List, [], ◌∷◌, ◌++◌, drop, length, refl, sym, ap, subst, ◌∙◌, Some, None, append_assoc, codes, arith}
+use Rattle.std.proofs.Common.{◌≡◌, ◌⊎◌, inl, inr, ⊎_elim, ℕ, ◌+◌, ◌<◌, ◌≤◌, ◌^◌, Bool, true, false, List, [], ◌∷◌, ◌++◌}
+use Rattle.std.proofs.Common.{drop, length, refl, sym, ap, subst, ◌∙◌, Some, None, append_assoc, codes, arith}
 use Rattle.std.specs.declared.option.Option.{Option}
 use Rattle.std.specs.List.{AllByRecursion, Contains}
 use Rattle.std.proofs.lemmas.Bool.{true≢false}
@@ -11,12 +12,14 @@ use Rattle.gob_bytes.specs.Words.{numbered}
 use Rattle.gob_plan.specs.declared.units.Counts.{Counts}
 use Rattle.gob_ledger.specs.Marks.{Marks}
 use Rattle.gob_ledger.specs.State.{State}
-use Rattle.gob_ledger.specs.Spelling.{FitsVersion, IsKeptPipeline, Proper, Small, Version, version_1, version_2, parts_text, totals_text, version_number}
+use Rattle.gob_ledger.specs.Spelling.{FitsVersion, IsKeptPipeline, Proper, Small, Version, version_1, version_2}
+use Rattle.gob_ledger.specs.Spelling.{parts_text, totals_text, version_number}
 use Rattle.gob_ledger.specs.Delta.{KeepsPipelines, LeadsTo, ReadsAsChange, changed_parts, delta_spelling, new_pipelines}
 use Rattle.gob_ledger.proofs.Changes.{all_member}
 use Rattle.gob_ledger.proofs.StateLines.{from_members}
 use Rattle.gob_state.proofs.FileLemmas.{no_branch_in_parts, no_part_at_end, proper_from, rest_of}
-use Rattle.gob_state.proofs.Steps.{Pairing, both_read, first_missing, is_missing, is_there, no_more, not_even, passed, refused, second_missing}
+use Rattle.gob_state.proofs.Steps.{Pairing, both_read, first_missing, is_missing, is_there, no_more, not_even, passed}
+use Rattle.gob_state.proofs.Steps.{refused, second_missing}
 use Rattle.gob_state.specs.Counts.{AreTotals, NoBranch}
 use Rattle.gob_state.specs.Files.{CountFits}
 use Rattle.gob_state.specs.Parts.{IsPart, NoPart}
@@ -26,7 +29,9 @@ use Rattle.gob_state.specs.declared.version.Version.{Version as CodeVersion}
 use Rattle.gob_state.specs.declared.version.Version.TheVariants.{First, Second}
 use Rattle.gob_segments.proofs.Changed.{more_pipelines}
 use Rattle.gob_text.specs.Words.{GoesOnAtAll, TakesText}
-use Rattle.gob_segments.specs.Applied.{AreApart, AreParted, CountedAfter, IsNextRun, PartsAfter, PipelinesAfter, ReadsAsNoChange, RestAfter, StayAlone, TotalsAfter, changed_table, counted_text, front_text, later_text, rest_text, state_with}
+use Rattle.gob_segments.specs.Applied.{AreApart, AreParted, CountedAfter, IsNextRun, PartsAfter, PipelinesAfter}
+use Rattle.gob_segments.specs.Applied.{ReadsAsNoChange, RestAfter, StayAlone, TotalsAfter, changed_table, counted_text}
+use Rattle.gob_segments.specs.Applied.{front_text, later_text, rest_text, state_with}
 
 -- ---- versions
 
@@ -80,7 +85,8 @@ run_pairing v run = record {
   first = λ n. code_of v;
   second = λ n. n;
   whole = λ n. refl;
-  spells = λ w n f g. ap (λ x. numbered (codes "gobblin-delta") (version_number x ∷ []) ++ numbered (codes "run") (n ∷ [])) (sym f);
+  spells = λ w n f g. ap (λ x. numbered (codes "gobblin-delta") (version_number x ∷ [])
+      ++ numbered (codes "run") (n ∷ [])) (sym f);
   fits = λ w n f g. g;
   parts = λ n f. (version_back v, f);
   goes = λ w n after f g h. tt;
@@ -193,7 +199,8 @@ later_is : (v : Version) (s t : State) → new_pipelines v s t ≡ later_text v 
 later_is version_1 s t = refl
 later_is version_2 s t = refl
 
-regrouped : (a b p t q e n : List ℕ) → (((a ++ b) ++ ((p ++ t) ++ q)) ++ e) ++ n ≡ (a ++ b) ++ ((p ++ (t ++ q)) ++ (e ++ n))
+regrouped : (a b p t q e n : List ℕ) → (((a ++ b) ++ ((p ++ t) ++ q)) ++ e) ++ n ≡ (a ++ b)
+    ++ ((p ++ (t ++ q)) ++ (e ++ n))
 regrouped a b p t q e n = simp append_assoc
 
 change_parts : (v : Version) (s t : State) → delta_spelling v s t
@@ -234,13 +241,15 @@ no_rest v s bytes mid rest o q r read none t is =
     no_more (rest_in t) (sym none ∙ (rest_is v s t bytes mid rest o q r read is).0)
 
 pub no_end : (v : Version) (s : State) (bytes mid rest last : List ℕ) (o : Option ℕ)
-    (q : Option (List (List ℕ) × (Counts × Table Marks))) (b : Bool) → RunReads v s bytes mid o → RestReads v s mid rest q
+    (q : Option (List (List ℕ) × (Counts × Table Marks))) (b : Bool) → RunReads v s bytes mid o
+    → RestReads v s mid rest q
     → TakesText (codes "end\n") rest last b → b ≡ false → ReadsAsNoChange v s bytes
 no_end v s bytes mid rest last o q b r read text gone t is =
     true≢false (sym (text.read [] (rest_is v s t bytes mid rest o q r read is).1).0 ∙ gone)
 
 pub more_behind : (v : Version) (s : State) (bytes mid rest last : List ℕ) (o : Option ℕ)
-    (q : Option (List (List ℕ) × (Counts × Table Marks))) (b : Bool) → RunReads v s bytes mid o → RestReads v s mid rest q
+    (q : Option (List (List ℕ) × (Counts × Table Marks))) (b : Bool) → RunReads v s bytes mid o
+    → RestReads v s mid rest q
     → TakesText (codes "end\n") rest last b → (last ≡ [] → ⊥) → ReadsAsNoChange v s bytes
 more_behind v s bytes mid rest last o q b r read text more t is =
     more (text.read [] (rest_is v s t bytes mid rest o q r read is).1).1
@@ -276,31 +285,38 @@ one_code Second Second e = refl
 pub version_missing : (w : CodeVersion) (run : ℕ) (old mid : List ℕ) (o : Option CodeVersion) → VersionReads old mid o
     → o ≡ None → FrontReads w run old mid None
 version_missing w run old mid o r none =
-    first_missing (run_pairing (version_of w) run) old mid mid None None (not_even old mid mid o None r (λ x h. tt) none refl)
+    first_missing (run_pairing (version_of w) run) old mid mid None None
+    (not_even old mid mid o None r (λ x h. tt) none refl)
     refl refl
 
-pub other_version : (w told : CodeVersion) (run : ℕ) (old mid : List ℕ) (o : Option CodeVersion) → VersionReads old mid o
+pub other_version : (w told : CodeVersion) (run : ℕ) (old mid : List ℕ) (o : Option CodeVersion)
+    → VersionReads old mid o
     → o ≡ Some told → (told ≡ w → ⊥) → FrontReads w run old mid None
 other_version w told run old mid o r is apart =
     first_missing (run_pairing (version_of w) run) old mid mid None None
-    (refused old mid mid told None (is_there old mid o told r is) (λ x h. tt) (λ h. apart (one_code told w h)) refl) refl refl
+    (refused old mid mid told None (is_there old mid o told r is) (λ x h. tt) (λ h. apart (one_code told w h)) refl)
+    refl refl
 
 version_there : (w told : CodeVersion) (old mid : List ℕ) (o : Option CodeVersion) → VersionReads old mid o
     → o ≡ Some told → told ≡ w
     → Reads (version_line (codes "gobblin-delta")) (λ x. version_of x ≡ version_of w) GoesOnAtAll old mid (Some told)
-version_there w told old mid o r is same = passed old mid told (is_there old mid o told r is) (λ x h. tt) (ap version_of same)
+version_there w told old mid o r is same = passed old mid told (is_there old mid o told r is) (λ x h. tt)
+    (ap version_of same)
 
 pub run_missing : (w told : CodeVersion) (run : ℕ) (old mid new : List ℕ) (o : Option CodeVersion) (q : Option ℕ)
-    → VersionReads old mid o → o ≡ Some told → told ≡ w → NumberReads mid new q → q ≡ None → FrontReads w run old new None
+    → VersionReads old mid o → o ≡ Some told → told ≡ w → NumberReads mid new q → q ≡ None
+    → FrontReads w run old new None
 run_missing w told run old mid new o q r is same read none =
-    second_missing (run_pairing (version_of w) run) old mid new told None None (version_there w told old mid o r is same)
+    second_missing (run_pairing (version_of w) run) old mid new told None None
+    (version_there w told old mid o r is same)
     (not_even mid new new q None read (λ n h. h.1) none refl) refl refl
 
 pub other_run : (w told : CodeVersion) (run next : ℕ) (old mid new : List ℕ) (o : Option CodeVersion) (q : Option ℕ)
     → VersionReads old mid o → o ≡ Some told → told ≡ w → NumberReads mid new q → q ≡ Some next
     → (next ≡ run + 1 → ⊥) → FrontReads w run old new None
 other_run w told run next old mid new o q r is same read there apart =
-    second_missing (run_pairing (version_of w) run) old mid new told None None (version_there w told old mid o r is same)
+    second_missing (run_pairing (version_of w) run) old mid new told None None
+    (version_there w told old mid o r is same)
     (refused mid new new next None (is_there mid new q next read there) (λ n h. h.1) (λ h. apart h.0) refl) refl refl
 
 pub run_there : (w told : CodeVersion) (run next : ℕ) (old mid new : List ℕ) (o : Option CodeVersion) (q : Option ℕ)
@@ -328,7 +344,8 @@ pub too_few : (v : Version) (n least : ℕ) (t : Table Marks) (old mid : List �
     → Reads (counted_text v t) (CountedAfter v n least t) NoPart old mid None
 too_few v n least t old mid o c r is few =
     first_missing (counted_pairing v n least t) old mid mid None None
-    (refused old mid mid c None (is_there old mid o c r is) (λ d h. h.0) (λ h. let many = h.1 in omega (arith, few, many)) refl)
+    (refused old mid mid c None (is_there old mid o c r is) (λ d h. h.0)
+    (λ h. let many = h.1 in omega (arith, few, many)) refl)
     refl refl
 
 totals_there : (least : ℕ) (old mid : List ℕ) (o : Option Counts) (c : Counts) → TotalsReads old mid o → o ≡ Some c
@@ -339,19 +356,22 @@ totals_there least old mid o c r is many =
 abbrev ChangedReads : Version → ℕ → Table Marks → List ℕ → List ℕ → Option (Table Marks) → Type 0
 ChangedReads v n t mid new q = Reads (λ u. parts_text v (changed_table t u)) (PartsAfter v n t) NoPart mid new q
 
-pub changes_missing : (v : Version) (n least : ℕ) (t : Table Marks) (old mid new : List ℕ) (o : Option Counts) (c : Counts)
+pub changes_missing : (v : Version) (n least : ℕ) (t : Table Marks) (old mid new : List ℕ) (o : Option Counts)
+    (c : Counts)
     (q : Option (Table Marks)) → TotalsReads old mid o → o ≡ Some c → least ≤ length c.branches
     → ChangedReads v n t mid new q → q ≡ None → Reads (counted_text v t) (CountedAfter v n least t) NoPart old new None
 changes_missing v n least t old mid new o c q r is many read none =
     second_missing (counted_pairing v n least t) old mid new c None None (totals_there least old mid o c r is many)
     (is_missing mid new q read none) refl refl
 
-pub counted_there : (v : Version) (n least : ℕ) (t u : Table Marks) (old mid new : List ℕ) (o : Option Counts) (c : Counts)
+pub counted_there : (v : Version) (n least : ℕ) (t u : Table Marks) (old mid new : List ℕ) (o : Option Counts)
+    (c : Counts)
     (q : Option (Table Marks)) → TotalsReads old mid o → o ≡ Some c → least ≤ length c.branches
     → ChangedReads v n t mid new q → q ≡ Some u
     → Reads (counted_text v t) (CountedAfter v n least t) NoPart old new (Some (c, u))
 counted_there v n least t u old mid new o c q r is many read there =
-    both_read (counted_pairing v n least t) old mid new c u (Some u) (Some (c, u)) (totals_there least old mid o c r is many)
+    both_read (counted_pairing v n least t) old mid new c u (Some u) (Some (c, u))
+    (totals_there least old mid o c r is many)
     (is_there mid new q u read there) refl refl
 
 -- ---- pipelines, totals and partitions
@@ -375,10 +395,12 @@ CountedReads v s n least mid new q = Reads (counted_text v s.parts) (CountedAfte
 pub later_missing : (v : Version) (s : State) (old mid : List ℕ) (o : Option (List (List ℕ))) → LaterReads v s old mid o
     → o ≡ None → Reads (rest_text v s) (RestAfter v s) NoPart old mid None
 later_missing v s old mid o r none =
-    first_missing (rest_pairing v s) old mid mid None None (not_even old mid mid o None r (λ c h. h.0) none refl) refl refl
+    first_missing (rest_pairing v s) old mid mid None None (not_even old mid mid o None r (λ c h. h.0) none refl) refl
+    refl
 
 pub counted_missing : (v : Version) (s : State) (old mid new : List ℕ) (o : Option (List (List ℕ))) (qs : List (List ℕ))
-    (n least : ℕ) (q : Option (Counts × Table Marks)) → LaterReads v s old mid o → o ≡ Some qs → n ≡ length qs → n < 2 ^ 64
+    (n least : ℕ) (q : Option (Counts × Table Marks)) → LaterReads v s old mid o → o ≡ Some qs → n ≡ length qs
+    → n < 2 ^ 64
     → least ≡ length s.totals.branches → CountedReads v s n least mid new q → q ≡ None
     → Reads (rest_text v s) (RestAfter v s) NoPart old new None
 counted_missing v s old mid new o qs n least q r is count small few read none =
@@ -387,12 +409,14 @@ counted_missing v s old mid new o qs n least q r is count small few read none =
     (subst (λ k. CountedReads v s n k mid new q) few read)) none) refl refl
 
 pub rest_there : (v : Version) (s : State) (old mid new : List ℕ) (o : Option (List (List ℕ))) (qs : List (List ℕ))
-    (n least : ℕ) (q : Option (Counts × Table Marks)) (z : Counts × Table Marks) → LaterReads v s old mid o → o ≡ Some qs
+    (n least : ℕ) (q : Option (Counts × Table Marks)) (z : Counts × Table Marks) → LaterReads v s old mid o
+    → o ≡ Some qs
     → n ≡ length qs → n < 2 ^ 64
     → least ≡ length s.totals.branches → CountedReads v s n least mid new q → q ≡ Some z
     → Reads (rest_text v s) (RestAfter v s) NoPart old new (Some (qs, z))
 rest_there v s old mid new o qs n least q z r is count small few read there =
-    both_read (rest_pairing v s) old mid new qs z (Some z) (Some (qs, z)) (later_there v s old mid o qs n r is count small)
+    both_read (rest_pairing v s) old mid new qs z (Some z) (Some (qs, z))
+    (later_there v s old mid o qs n r is count small)
     (is_there mid new q z (subst (λ k. CountedReads v s k (length s.totals.branches) mid new q) count
     (subst (λ k. CountedReads v s n k mid new q) few read)) there) refl refl
 
@@ -403,7 +427,8 @@ later_is_after v s old mid o qs r is = (is_there old mid o qs r is).spelled.0
 
 -- ---- the readers as the code has them
 
-pub run_reads : (v : Version) (s : State) (text bytes mid : List ℕ) (run : ℕ) (o : Option ℕ) → text ≡ bytes → run ≡ s.run
+pub run_reads : (v : Version) (s : State) (text bytes mid : List ℕ) (run : ℕ) (o : Option ℕ) → text ≡ bytes
+    → run ≡ s.run
     → Reads (front_text v) (IsNextRun run) GoesOnAtAll text mid o → RunReads v s bytes mid o
 run_reads v s text bytes mid run o same level r =
     subst (λ x. Reads (front_text v) (IsNextRun s.run) GoesOnAtAll x mid o) same

@@ -8,6 +8,7 @@ use Rattle.gob_seq.specs.Maps.{IsReady}
 pub ready_now : (before now : Option Disk) (job : List ℕ) (steps : List CommitStep) (ready : Bool) → now ≡ before
     → IfSome before (λ d. IsTrue ready ↔ IsReady job steps d.files) → ready ≡ true
     → IfSome now (λ d. IsReady job steps d.files)
-ready_now None now job steps ready same found is = subst (λ disk. IfSome disk (λ d. IsReady job steps d.files)) (sym same) tt
+ready_now None now job steps ready same found is = subst (λ disk. IfSome disk (λ d. IsReady job steps d.files))
+    (sym same) tt
 ready_now (Some d) now job steps ready same found is =
     subst (λ disk. IfSome disk (λ d. IsReady job steps d.files)) (sym same) (found.0 is)

@@ -1,5 +1,6 @@
 -- The folders of attempts: two of them have no name in common, and each is in the job's folder of staged files.
-use Rattle.std.proofs.Common.{◌≡◌, ◌≢◌, ℕ, ◌≤◌, ◌<◌, ◌^◌, Bool, true, false, not, ◌&&◌, List, [], ◌∷◌, ◌++◌, refl, sym, ap, subst, ◌∙◌, nat_eq, codes, arith, decimal}
+use Rattle.std.proofs.Common.{◌≡◌, ◌≢◌, ℕ, ◌≤◌, ◌<◌, ◌^◌, Bool, true, false, not, ◌&&◌, List, [], ◌∷◌, ◌++◌, refl, sym}
+use Rattle.std.proofs.Common.{ap, subst, ◌∙◌, nat_eq, codes, arith, decimal}
 use Rattle.std.specs.Char.{is_ascii_digit}
 use Rattle.std.specs.List.{list_all}
 use Rattle.std.specs.Str.{all_ascii_digits}
@@ -27,11 +28,13 @@ are_digits n small = digits_decimal own n small
 digit_is_not : (sep b : ℕ) → sep < 48 → is_ascii_digit b ≡ true → not (nat_eq b sep) ≡ true
 digit_is_not sep b below digit = grind (arith, nat_tests)
 
-digits_have_no : (sep : ℕ) (bs : List ℕ) → sep < 48 → all_ascii_digits bs ≡ true → list_all (λ b. not (nat_eq b sep)) bs ≡ true
+digits_have_no : (sep : ℕ) (bs : List ℕ) → sep < 48 → all_ascii_digits bs ≡ true
+    → list_all (λ b. not (nat_eq b sep)) bs ≡ true
 digits_have_no sep [] below all = refl
 digits_have_no sep (b ∷ bs) below all =
     let parts = and_parts (is_ascii_digit b) (all_ascii_digits bs) all in
-    and_from (not (nat_eq b sep)) (list_all (λ b. not (nat_eq b sep)) bs) (digit_is_not sep b below parts.0) (digits_have_no sep bs below parts.1)
+    and_from (not (nat_eq b sep)) (list_all (λ b. not (nat_eq b sep)) bs) (digit_is_not sep b below parts.0)
+    (digits_have_no sep bs below parts.1)
 
 digit_named : (b : ℕ) → is_ascii_digit b ≡ true → is_name_byte b ≡ true
 digit_named b digit = digit_is_not 0 b (omega arith) digit
@@ -49,7 +52,8 @@ record SplitAlike (xs ys p q : List ℕ) : Type 0 where
   front : xs ≡ ys
   back : p ≡ q
 
-split_alike : (sep : ℕ) (xs ys p q : List ℕ) → list_all (λ b. not (nat_eq b sep)) xs ≡ true → list_all (λ b. not (nat_eq b sep)) ys ≡ true
+split_alike : (sep : ℕ) (xs ys p q : List ℕ) → list_all (λ b. not (nat_eq b sep)) xs ≡ true
+    → list_all (λ b. not (nat_eq b sep)) ys ≡ true
     → xs ++ sep ∷ p ≡ ys ++ sep ∷ q → SplitAlike xs ys p q
 split_alike sep [] [] p q a b same = record { front = refl; back = let both : sep ∷ p ≡ sep ∷ q = same in cc }
 split_alike sep [] (y ∷ ys) p q a b same =
@@ -87,22 +91,28 @@ rest_of (b ∷ front) (c ∷ name) begins =
 begins_more : (front more : List ℕ) → begins_with front (front ++ more) ≡ true
 begins_more [] [] = refl
 begins_more [] (b ∷ more) = refl
-begins_more (b ∷ front) more = and_from (nat_eq b b) (begins_with front (front ++ more)) (eq-eqb b b refl) (begins_more front more)
+begins_more (b ∷ front) more = and_from (nat_eq b b) (begins_with front (front ++ more)) (eq-eqb b b refl)
+    (begins_more front more)
 
 -- a folder and what is behind it, from the job's folder of staged files on
 folder_parts : (job : List ℕ) (unit attempt : ℕ) (more : List ℕ)
     → attempt_folder job unit attempt ++ more ≡ staging job ++ (decimal unit ++ 45 ∷ (decimal attempt ++ 47 ∷ more))
 folder_parts job unit attempt more = simp append_assoc
 
-one_attempt : (job : List ℕ) (unit attempt other again : ℕ) (x y : List ℕ) → unit < 2 ^ 32 → attempt < 2 ^ 32 → other < 2 ^ 32 → again < 2 ^ 32
+one_attempt : (job : List ℕ) (unit attempt other again : ℕ) (x y : List ℕ) → unit < 2 ^ 32 → attempt < 2 ^ 32
+    → other < 2 ^ 32 → again < 2 ^ 32
     → attempt_folder job unit attempt ++ x ≡ attempt_folder job other again ++ y → (unit ≡ other) × (attempt ≡ again)
 one_attempt job unit attempt other again x y u a o g same =
     let all = sym (folder_parts job unit attempt x) ∙ (same ∙ folder_parts job other again y) in
-    let numbers = append_cancel_left (staging job) (decimal unit ++ 45 ∷ (decimal attempt ++ 47 ∷ x)) (decimal other ++ 45 ∷ (decimal again ++ 47 ∷ y)) all in
+    let numbers = append_cancel_left (staging job) (decimal unit ++ 45 ∷ (decimal attempt ++ 47 ∷ x))
+    (decimal other ++ 45 ∷ (decimal again ++ 47 ∷ y)) all in
     let units = split_alike 45 (decimal unit) (decimal other) (decimal attempt ++ 47 ∷ x) (decimal again ++ 47 ∷ y)
     (no 45 unit (omega arith) u) (no 45 other (omega arith) o) numbers in
-    let attempts = split_alike 47 (decimal attempt) (decimal again) x y (no 47 attempt (omega arith) a) (no 47 again (omega arith) g) units.back in
-    (decimal_injective unit other (wide unit u) (wide other o) units.front, decimal_injective attempt again (wide attempt a) (wide again g) attempts.front)
+    let attempts = split_alike 47 (decimal attempt) (decimal again) x y (no 47 attempt (omega arith) a)
+    (no 47 again (omega arith) g) units.back in (
+      decimal_injective unit other (wide unit u) (wide other o) units.front,
+      decimal_injective attempt again (wide attempt a) (wide again g) attempts.front,
+    )
   where
     wide : (n : ℕ) → n < 2 ^ 32 → n < 2 ^ 64
     wide n small = omega (arith, small)
@@ -144,21 +154,26 @@ attempts_apart job unit attempt other again u a o g differ = record {
 pub attempts_staged : AttemptsAreStaged
 attempts_staged job unit attempt name begins =
     let more = rest_of (attempt_folder job unit attempt) name begins in
-    subst (λ n. begins_with (staging job) n ≡ true) (sym (more.1 ∙ folder_parts job unit attempt more.0)) (begins_more (staging job) (decimal unit ++ 45 ∷ (decimal attempt ++ 47 ∷ more.0)))
+    subst (λ n. begins_with (staging job) n ≡ true) (sym (more.1 ∙ folder_parts job unit attempt more.0))
+    (begins_more (staging job) (decimal unit ++ 45 ∷ (decimal attempt ++ 47 ∷ more.0)))
 
 -- ---- the folder's name may be given to a call
 
-all_then : (xs ys : List ℕ) → list_all is_name_byte xs ≡ true → list_all is_name_byte ys ≡ true → list_all is_name_byte (xs ++ ys) ≡ true
+all_then : (xs ys : List ℕ) → list_all is_name_byte xs ≡ true → list_all is_name_byte ys ≡ true
+    → list_all is_name_byte (xs ++ ys) ≡ true
 all_then [] ys a b = b
 all_then (x ∷ xs) ys a b =
     let p = and_parts (is_name_byte x) (list_all is_name_byte xs) a in
     and_from (is_name_byte x) (list_all is_name_byte (xs ++ ys)) p.0 (all_then xs ys p.1 b)
 
-pub folder_named : (job : List ℕ) (unit attempt : ℕ) → unit < 2 ^ 32 → attempt < 2 ^ 32 → IsPathname job → IsPathname (attempt_folder job unit attempt)
+pub folder_named : (job : List ℕ) (unit attempt : ℕ) → unit < 2 ^ 32 → attempt < 2 ^ 32 → IsPathname job
+    → IsPathname (attempt_folder job unit attempt)
 folder_named job unit attempt u a named =
-    let back : list_all is_name_byte (decimal attempt ++ 47 ∷ []) ≡ true = all_then (decimal attempt) (47 ∷ []) (numbered attempt a) refl in
+    let back : list_all is_name_byte (decimal attempt ++ 47 ∷ []) ≡ true =
+    all_then (decimal attempt) (47 ∷ []) (numbered attempt a) refl in
     let whole : IsPathname (staging job ++ (decimal unit ++ 45 ∷ (decimal attempt ++ 47 ∷ []))) =
-    name_before (staging job) (decimal unit ++ 45 ∷ (decimal attempt ++ 47 ∷ [])) (name_before job (47 ∷ codes "stage/") named refl)
+    name_before (staging job) (decimal unit ++ 45 ∷ (decimal attempt ++ 47 ∷ []))
+    (name_before job (47 ∷ codes "stage/") named refl)
     (all_then (decimal unit) (45 ∷ (decimal attempt ++ 47 ∷ [])) (numbered unit u) back) in
     subst IsPathname (sym (folder_parts job unit attempt []) ∙ append-nil (attempt_folder job unit attempt)) whole
   where

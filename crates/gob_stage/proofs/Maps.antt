@@ -1,5 +1,6 @@
 -- What appends and syncs make of one file, and that they leave every other file.
-use Rattle.std.proofs.Common.{◌≡◌, ◌≢◌, ⊎_elim, ℕ, Bool, true, false, cond, List, [], ◌∷◌, ◌++◌, refl, sym, ap, subst, ◌∙◌, Some, None, option_map, is_some, IsSome, IfSome, OnOk, OnErr}
+use Rattle.std.proofs.Common.{◌≡◌, ◌≢◌, ⊎_elim, ℕ, Bool, true, false, cond, List, [], ◌∷◌, ◌++◌, refl, sym, ap, subst}
+use Rattle.std.proofs.Common.{◌∙◌, Some, None, option_map, is_some, IsSome, IfSome, OnOk, OnErr}
 use Rattle.std.specs.declared.option.Option.{Option}
 use Rattle.std.specs.declared.result.Result.{Result}
 use Rattle.std.specs.declared.result.Result.TheVariants.{Ok, Err}
@@ -9,7 +10,8 @@ use Rattle.std.proofs.lemmas.List.{append-nil, append_assoc}
 use Rattle.gob_bytes.specs.Paths.{begins_with}
 use Rattle.gob_bytes.proofs.Tables.{name_itself, same_name, two_names}
 use Rattle.gob_device.specs.Disk.{Along, Both, Changes, Disk, File, Files, OnlyAt, Torn, Whole}
-use Rattle.gob_device.specs.Disk.{after_append, after_change, after_create, after_sync, clean, contents_at, contents_of, dirty, put, synced_file, with_more}
+use Rattle.gob_device.specs.Disk.{after_append, after_change, after_create, after_sync, clean, contents_at, contents_of}
+use Rattle.gob_device.specs.Disk.{dirty, put, synced_file, with_more}
 use Rattle.gob_device.proofs.Trail.{along_change, along_map, along_then}
 use Rattle.gob_recovery.specs.Commits.{OnlyBelow}
 
@@ -43,7 +45,8 @@ contents_more [] f = sym (append-nil (contents_of f))
 contents_more (b ∷ bytes) (clean kept) = refl
 contents_more (b ∷ bytes) (dirty kept loose) = sym (append_assoc kept loose (b ∷ bytes))
 
-pub appended_here : (name bytes : List ℕ) (m : Files) → after_append name bytes m name ≡ option_map (with_more bytes) (m name)
+pub appended_here : (name bytes : List ℕ) (m : Files) → after_append name bytes m name ≡ option_map (with_more bytes)
+    (m name)
 unfolding after_append
 appended_here name bytes m = put_here m name (option_map (with_more bytes) (m name))
 
@@ -72,17 +75,20 @@ synced_other name m other apart = put_other m name other (option_map synced_file
 pub only_at_then : (name : List ℕ) (m n k : Files) → OnlyAt name m n → OnlyAt name n k → OnlyAt name m k
 only_at_then name m n k a b other apart = b other apart ∙ a other apart
 
-whole_only : (name : List ℕ) (step : Files → Files) → ((m : Files) → OnlyAt name m (step m)) → (m n : Files) → Whole step m n → OnlyAt name m n
+whole_only : (name : List ℕ) (step : Files → Files) → ((m : Files) → OnlyAt name m (step m)) → (m n : Files)
+    → Whole step m n → OnlyAt name m n
 whole_only name step only m n w = ⊎_elim
     (λ e other apart. ap (λ (f : Files). f other) e)
     (λ e other apart. ap (λ (f : Files). f other) e ∙ only m other apart) w
 
 pub created_only : {T E : Type 0} (name : List ℕ) {old new : Option Disk} {result : Result T E}
     → Changes (after_create name) (Whole (after_create name)) old new result → Along (OnlyAt name) old new
-created_only name c = along_change (OnlyAt name) (created_other name) (whole_only name (after_create name) (created_other name)) c
+created_only name c = along_change (OnlyAt name) (created_other name)
+    (whole_only name (after_create name) (created_other name)) c
 
 pub appended_only : {T E : Type 0} (name bytes : List ℕ) {old new : Option Disk} {result : Result T E}
-    → Changes (after_append name bytes) (Torn name (after_append name bytes)) old new result → Along (OnlyAt name) old new
+    → Changes (after_append name bytes) (Torn name (after_append name bytes)) old new result
+    → Along (OnlyAt name) old new
 appended_only name bytes c = along_change (OnlyAt name) (appended_other name bytes) (λ m n t. t.others) c
 
 pub synced_only : {T E : Type 0} (name : List ℕ) {old new : Option Disk} {result : Result T E}
@@ -96,7 +102,8 @@ no_below folder x y out within e = true≢false (sym within ∙ (ap (begins_with
 pub below_at : (folder name : List ℕ) {old new : Option Disk} → begins_with folder name ≡ true
     → Along (OnlyAt name) old new → Along (OnlyBelow folder) old new
 below_at folder name within a =
-    along_map (OnlyAt name) (OnlyBelow folder) (λ m n only other out. only other (no_below folder other name out within)) a
+    along_map (OnlyAt name) (OnlyBelow folder) (λ m n only other out.
+    only other (no_below folder other name out within)) a
 
 -- ---- what is there
 
@@ -115,7 +122,8 @@ by_name name q P same apart = cases (bytes_eq q name) refl
 pub there_synced : (name q : List ℕ) (m : Files) → IsSome (m q) → IsSome (after_sync name m q)
 there_synced name q m there = by_name name q (IsSome (after_sync name m q))
     (λ same. subst (λ (n : List ℕ). IsSome (after_sync name m n)) (sym same)
-    (subst (λ (o : Option File). IsSome o) (sym (synced_here name m)) (there_mapped synced_file (m name) (subst (λ n. IsSome (m n)) same there))))
+    (subst (λ (o : Option File). IsSome o) (sym (synced_here name m))
+    (there_mapped synced_file (m name) (subst (λ n. IsSome (m n)) same there))))
     (λ apart. subst (λ (o : Option File). IsSome o) (sym (synced_other name m q apart)) there)
 
 contents_of_synced : (o : Option File) → option_map contents_of (option_map synced_file o) ≡ option_map contents_of o
@@ -126,11 +134,13 @@ contents_of_synced (Some f) = refl
 pub contents_synced : (name q : List ℕ) (m : Files) → contents_at (after_sync name m) q ≡ contents_at m q
 contents_synced name q m = by_name name q (contents_at (after_sync name m) q ≡ contents_at m q)
     (λ same. ap (contents_at (after_sync name m)) same
-    ∙ (ap (option_map contents_of) (synced_here name m) ∙ (contents_of_synced (m name) ∙ ap (contents_at m) (sym same))))
+    ∙ (ap (option_map contents_of) (synced_here name m) ∙ (contents_of_synced (m name)
+    ∙ ap (contents_at m) (sym same))))
     (λ apart. ap (option_map contents_of) (synced_other name m q apart))
 
 -- a clean file stays clean
-pub clean_synced : (name q bytes : List ℕ) (m : Files) → m q ≡ Some (clean bytes) → after_sync name m q ≡ Some (clean bytes)
+pub clean_synced : (name q bytes : List ℕ) (m : Files) → m q ≡ Some (clean bytes)
+    → after_sync name m q ≡ Some (clean bytes)
 clean_synced name q bytes m is = by_name name q (after_sync name m q ≡ Some (clean bytes))
     (λ same. ap (after_sync name m) same ∙ (synced_here name m ∙ ap (option_map synced_file) (ap m (sym same) ∙ is)))
     (λ apart. synced_other name m q apart ∙ is)
@@ -142,7 +152,8 @@ pub told_map : (P Q : Disk → Type 0) → ((d : Disk) → P d → Q d) → (o :
 told_map P Q weaker None p = tt
 told_map P Q weaker (Some d) p = weaker d p
 
-pub there_created : (name : List ℕ) (old new : Option Disk) → new ≡ option_map (after_change (after_create name)) old → IfSome new (λ d. IsSome (d.files name))
+pub there_created : (name : List ℕ) (old new : Option Disk) → new ≡ option_map (after_change (after_create name)) old
+    → IfSome new (λ d. IsSome (d.files name))
 there_created name old new is = subst (λ o. IfSome o (λ d. IsSome (d.files name))) (sym is) (told old)
   where
     some_made : (o : Option File) → o ≡ Some (clean []) → IsSome o
@@ -153,5 +164,6 @@ there_created name old new is = subst (λ o. IfSome o (λ d. IsSome (d.files nam
     told (Some d) = some_made (after_create name d.files name) (created_here name d.files)
 
 -- a file is made, and bytes are appended to it, whatever the calls answer
-pub made_only : (name : List ℕ) {old between new : Option Disk} → Along (OnlyAt name) old between → Along (OnlyAt name) between new → Along (OnlyAt name) old new
+pub made_only : (name : List ℕ) {old between new : Option Disk} → Along (OnlyAt name) old between
+    → Along (OnlyAt name) between new → Along (OnlyAt name) old new
 made_only name a b = along_then (OnlyAt name) (only_at_then name) a b

@@ -1,5 +1,6 @@
 -- Targets in byte order, and the names of their staged files.
-use Rattle.std.proofs.Common.{◌≡◌, ◌≢◌, ℕ, Bool, true, false, cond, ◌&&◌, ◌||◌, List, [], ◌∷◌, ◌++◌, map, refl, sym, ap, subst, ◌∙◌, Some, None, is_some, IsSome, nat_eq}
+use Rattle.std.proofs.Common.{◌≡◌, ◌≢◌, ℕ, Bool, true, false, cond, ◌&&◌, ◌||◌, List, [], ◌∷◌, ◌++◌, map, refl, sym, ap}
+use Rattle.std.proofs.Common.{subst, ◌∙◌, Some, None, is_some, IsSome, nat_eq}
 use Rattle.std.specs.declared.cmp.Ordering.{Ordering}
 use Rattle.std.specs.declared.cmp.Ordering.TheVariants.{Less, Equal, Greater}
 use Rattle.std.specs.declared.option.Option.{Option}
@@ -9,14 +10,16 @@ use Rattle.std.proofs.lemmas.Bool.{and_parts, and_from, eq-eqb}
 use Rattle.std.proofs.lemmas.List.{append_cancel_left}
 use Rattle.gob_bytes.specs.Paths.{begins_with}
 use Rattle.gob_bytes.specs.Tables.{Table, IsInByteOrder, at_name, name_cmp, names_of, with_name}
-use Rattle.gob_bytes.proofs.Tables.{greater_less, less_apart, less_then, level_names, name_itself, rising-with_name, rising_tail, same_name, two_names}
+use Rattle.gob_bytes.proofs.Tables.{greater_less, less_apart, less_then, level_names, name_itself, rising-with_name}
+use Rattle.gob_bytes.proofs.Tables.{rising_tail, same_name, two_names}
 use Rattle.gob_device.specs.Names.{IsPathname, is_pathname}
 use Rattle.gob_device.proofs.Names.{bytes_of_name, name_before}
 use Rattle.gob_stage.specs.Attempt.{with_target}
 use Rattle.gob_stage.specs.Inside.{IsKept}
 
 -- a name is among those of a table exactly where a look-up finds it
-pub begun_is : {X : Type 0} (t : Table X) (name : List ℕ) → list_any (bytes_eq name) (names_of t) ≡ is_some (at_name t name)
+pub begun_is : {X : Type 0} (t : Table X) (name : List ℕ) → list_any (bytes_eq name) (names_of t) ≡ is_some
+    (at_name t name)
 begun_is [] name = refl
 begun_is {X} (e ∷ es) name = cases (bytes_eq name e.0) (begun_is es name)
   where
@@ -26,7 +29,8 @@ begun_is {X} (e ∷ es) name = cases (bytes_eq name e.0) (begun_is es name)
     cases false later = later
 
 -- the names of a table with one more
-pub names_with : {X : Type 0} (t : Table X) (name : List ℕ) (x : X) → names_of (with_name t name x) ≡ with_target (names_of t) name
+pub names_with : {X : Type 0} (t : Table X) (name : List ℕ) (x : X)
+    → names_of (with_name t name x) ≡ with_target (names_of t) name
 names_with [] name x = refl
 names_with {X} (e ∷ es) name x = cases (name_cmp name e.0) refl (names_with es name x)
   where
@@ -36,7 +40,8 @@ names_with {X} (e ∷ es) name x = cases (name_cmp name e.0) refl (names_with es
     cases Equal is later = rw is refl
     cases Greater is later = rw is (ap (λ ns. e.0 ∷ ns) later)
 
-below_all : (ts : List (List ℕ)) (t target : List ℕ) → name_cmp target t ≡ Less → IsInByteOrder (t ∷ ts) → IsInByteOrder (target ∷ ts)
+below_all : (ts : List (List ℕ)) (t target : List ℕ) → name_cmp target t ≡ Less → IsInByteOrder (t ∷ ts)
+    → IsInByteOrder (target ∷ ts)
 below_all [] t target below rising = tt
 below_all (u ∷ ts) t target below rising = (less_then target t u below rising.0, rising.1)
 
@@ -47,9 +52,11 @@ not_below (t ∷ ts) target rising =
     ∙ not_below ts target (below_all ts t target rising.0 rising.1)
 
 -- a target that is there already
-pub with_begun : (ts : List (List ℕ)) (target : List ℕ) → IsInByteOrder ts → list_any (bytes_eq target) ts ≡ true → with_target ts target ≡ ts
+pub with_begun : (ts : List (List ℕ)) (target : List ℕ) → IsInByteOrder ts → list_any (bytes_eq target) ts ≡ true
+    → with_target ts target ≡ ts
 with_begun [] target rising there = absurd (let no : false ≡ true = there in cc)
-with_begun (t ∷ ts) target rising there = cases (name_cmp target t) refl (with_begun ts target (rising_tail t ts rising))
+with_begun (t ∷ ts) target rising there = cases (name_cmp target t) refl
+    (with_begun ts target (rising_tail t ts rising))
   where
     Later : Type 0
     Later = list_any (bytes_eq target) ts ≡ true → with_target ts target ≡ ts
@@ -63,10 +70,12 @@ with_begun (t ∷ ts) target rising there = cases (name_cmp target t) refl (with
         let in_ : list_any (bytes_eq target) ts ≡ true = behind (two_names target t (less_apart target t is)) in cc
     cases Equal is later = rw is (ap (λ n. n ∷ ts) (level_names target t is))
     cases Greater is later =
-        rw is (ap (λ ns. t ∷ ns) (later (behind (two_names target t (λ same. less_apart t target (greater_less target t is) (sym same))))))
+        rw is (ap (λ ns. t ∷ ns) (later (behind (two_names target t
+        (λ same. less_apart t target (greater_less target t is) (sym same))))))
 
 -- what is among the targets with one more
-pub any_with : (ts : List (List ℕ)) (target q : List ℕ) → bytes_eq q target ≡ false → list_any (bytes_eq q) (with_target ts target) ≡ true → list_any (bytes_eq q) ts ≡ true
+pub any_with : (ts : List (List ℕ)) (target q : List ℕ) → bytes_eq q target ≡ false
+    → list_any (bytes_eq q) (with_target ts target) ≡ true → list_any (bytes_eq q) ts ≡ true
 any_with [] target q apart among = absurd (let no : false ≡ true = sym (ap (λ b. b || false) apart) ∙ among in cc)
 any_with (t ∷ ts) target q apart among = cases (name_cmp target t) refl (any_with ts target q apart)
   where
@@ -82,23 +91,30 @@ any_with (t ∷ ts) target q apart among = cases (name_cmp target t) refl (any_w
     extra true c e = refl
     extra false c e = e
 
-    cases : (o : Ordering) → name_cmp target t ≡ o → (list_any (bytes_eq q) (with_target ts target) ≡ true → list_any (bytes_eq q) ts ≡ true)
+    cases : (o : Ordering) → name_cmp target t ≡ o → (list_any (bytes_eq q) (with_target ts target) ≡ true
+        → list_any (bytes_eq q) ts ≡ true)
         → list_any (bytes_eq q) (t ∷ ts) ≡ true
     cases Less is later =
-        passed (bytes_eq q target) (list_any (bytes_eq q) (t ∷ ts)) apart (subst (λ ns. list_any (bytes_eq q) ns ≡ true) (let w : with_target (t ∷ ts) target ≡ target ∷ t ∷ ts = rw is refl in w) among)
+        passed (bytes_eq q target) (list_any (bytes_eq q) (t ∷ ts)) apart
+        (subst (λ ns. list_any (bytes_eq q) ns ≡ true) (let w : with_target (t ∷ ts) target ≡ target ∷ t ∷ ts =
+        rw is refl in w) among)
     cases Equal is later =
         extra (bytes_eq q t) (list_any (bytes_eq q) ts)
-        (passed (bytes_eq q target) (list_any (bytes_eq q) ts) apart (subst (λ ns. list_any (bytes_eq q) ns ≡ true) (let w : with_target (t ∷ ts) target ≡ target ∷ ts = rw is refl in w) among))
+        (passed (bytes_eq q target) (list_any (bytes_eq q) ts) apart
+        (subst (λ ns. list_any (bytes_eq q) ns ≡ true) (let w : with_target (t ∷ ts) target ≡ target ∷ ts =
+        rw is refl in w) among))
     cases Greater is later =
         behind (bytes_eq q t) (list_any (bytes_eq q) (with_target ts target)) (list_any (bytes_eq q) ts) later
-        (subst (λ ns. list_any (bytes_eq q) ns ≡ true) (let w : with_target (t ∷ ts) target ≡ t ∷ with_target ts target = rw is refl in w) among)
+        (subst (λ ns. list_any (bytes_eq q) ns ≡ true) (let w : with_target (t ∷ ts) target ≡ t ∷ with_target ts target
+        = rw is refl in w) among)
 
 -- ---- the names in a folder
 
 pub front_more : (front more : List ℕ) → begins_with front (front ++ more) ≡ true
 front_more [] [] = refl
 front_more [] (b ∷ more) = refl
-front_more (b ∷ front) more = and_from (nat_eq b b) (begins_with front (front ++ more)) (eq-eqb b b refl) (front_more front more)
+front_more (b ∷ front) more = and_from (nat_eq b b) (begins_with front (front ++ more)) (eq-eqb b b refl)
+    (front_more front more)
 
 -- two targets have two staged files
 pub apart_in : (folder x y : List ℕ) → bytes_eq x y ≡ false → folder ++ x ≢ folder ++ y
@@ -113,10 +129,12 @@ named_in folder target f t = name_before folder target f (bytes_of_name target t
 -- ---- what an attempt keeps
 
 -- the staged file of a target is named by its folder and the target
-pub kept_name : (folder : List ℕ) (files : Table (List ℕ)) (target name : List ℕ) → map (λ e. e.1) files ≡ map (λ e. folder ++ e.0) files
+pub kept_name : (folder : List ℕ) (files : Table (List ℕ)) (target name : List ℕ)
+    → map (λ e. e.1) files ≡ map (λ e. folder ++ e.0) files
     → at_name files target ≡ Some name → name ≡ folder ++ target
 kept_name folder [] target name staged found = absurd (let no : None ≡ Some name = found in cc)
-kept_name folder (e ∷ es) target name staged found = cases (bytes_eq target e.0) refl found (kept_name folder es target name rest)
+kept_name folder (e ∷ es) target name staged found = cases (bytes_eq target e.0) refl found
+    (kept_name folder es target name rest)
   where
     first : e.1 ≡ folder ++ e.0
     first = let both : e.1 ∷ map (λ d. d.1) es ≡ (folder ++ e.0) ∷ map (λ d. folder ++ d.0) es = staged in cc
@@ -145,7 +163,8 @@ kept_path (e ∷ es) target name named found = cases (bytes_eq target e.0) refl 
     cases false apart is later = later is
 
 staged_more : (folder : List ℕ) (t : Table (List ℕ)) (target : List ℕ) → map (λ e. e.1) t ≡ map (λ e. folder ++ e.0) t
-    → map (λ e. e.1) (with_name t target (folder ++ target)) ≡ map (λ e. folder ++ e.0) (with_name t target (folder ++ target))
+    → map (λ e. e.1) (with_name t target (folder ++ target)) ≡ map (λ e. folder ++ e.0)
+    (with_name t target (folder ++ target))
 staged_more folder [] target staged = refl
 staged_more folder (e ∷ es) target staged = cases (name_cmp target e.0) refl (staged_more folder es target rest)
   where
@@ -161,7 +180,8 @@ staged_more folder (e ∷ es) target staged = cases (name_cmp target e.0) refl (
     Staged : Table (List ℕ) → Type 0
     Staged t = map (λ d. d.1) t ≡ map (λ d. folder ++ d.0) t
 
-    cases : (o : Ordering) → name_cmp target e.0 ≡ o → Staged (with_name es target (folder ++ target)) → Staged (with_name (e ∷ es) target (folder ++ target))
+    cases : (o : Ordering) → name_cmp target e.0 ≡ o → Staged (with_name es target (folder ++ target))
+        → Staged (with_name (e ∷ es) target (folder ++ target))
     cases Less is later = rw is (ap (λ ns. (folder ++ target) ∷ ns) staged)
     cases Equal is later = rw is (ap (λ ns. (folder ++ target) ∷ ns) rest)
     cases Greater is later = rw is (λ i. first i ∷ later i)
@@ -177,13 +197,16 @@ named_more (e ∷ es) target x named all = cases (name_cmp target e.0) refl (nam
     Named : Table (List ℕ) → Type 0
     Named t = list_all is_pathname (names_of t) ≡ true
 
-    cases : (o : Ordering) → name_cmp target e.0 ≡ o → Named (with_name es target x) → Named (with_name (e ∷ es) target x)
+    cases : (o : Ordering) → name_cmp target e.0 ≡ o → Named (with_name es target x)
+        → Named (with_name (e ∷ es) target x)
     cases Less is later = rw is (and_from (is_pathname target) (list_all is_pathname (names_of (e ∷ es))) named all)
     cases Equal is later = rw is (and_from (is_pathname target) (list_all is_pathname (names_of es)) named parts.1)
-    cases Greater is later = rw is (and_from (is_pathname e.0) (list_all is_pathname (names_of (with_name es target x))) parts.0 later)
+    cases Greater is later = rw is (and_from (is_pathname e.0) (list_all is_pathname (names_of (with_name es target x)))
+        parts.0 later)
 
 -- one more
-pub kept_more : (folder : List ℕ) (files : Table (List ℕ)) (target : List ℕ) → IsKept folder files → IsPathname target → IsKept folder (with_name files target (folder ++ target))
+pub kept_more : (folder : List ℕ) (files : Table (List ℕ)) (target : List ℕ) → IsKept folder files → IsPathname target
+    → IsKept folder (with_name files target (folder ++ target))
 kept_more folder files target kept named = record {
   folder_named = kept.folder_named;
   rising = rising-with_name files target (folder ++ target) kept.rising;

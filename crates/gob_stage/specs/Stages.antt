@@ -4,7 +4,8 @@ use Rattle.std.specs.List.{list_any}
 use Rattle.std.specs.Str.{bytes_eq}
 use Rattle.gob_bytes.specs.Tables.{Table}
 use Rattle.gob_device.specs.Disk.{Disk, Files, after_append, after_change, after_create, after_sync}
-use Rattle.gob_stage.specs.Attempt.{AttemptValue, HoldsStaged, HoldsClean, after_begin, is_begun, staged_name, with_appended}
+use Rattle.gob_stage.specs.Attempt.{AttemptValue, HoldsStaged, HoldsClean, after_begin, is_begun, staged_name}
+use Rattle.gob_stage.specs.Attempt.{with_appended}
 
 -- a file is made, and bytes are appended to it
 abbrev pub after_making : List ℕ → List ℕ → Disk → Disk

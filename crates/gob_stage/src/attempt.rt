@@ -7,8 +7,10 @@ ghost use Rattle.gob_device.specs.Disk.{Along, Both, OnlyAt};
 ghost use Rattle.gob_device.specs.Names.{IsPathname, is_pathname};
 ghost use Rattle.std.specs.List.{list_all};
 ghost use Rattle.gob_recovery.specs.Commits.{OnlyBelow};
-ghost use Rattle.gob_stage.specs.Attempt.{AreThere, after_begin, is_begun, new_attempt, staged_entry, staged_files, staged_name};
-ghost use Rattle.gob_stage.specs.Stages.{EachThere, HoldsAll, HoldsMore, OnlyAmong, after_finish, after_making, after_staging, after_syncs};
+ghost use Rattle.gob_stage.specs.Attempt.{AreThere, after_begin, is_begun, new_attempt, staged_entry, staged_files};
+ghost use Rattle.gob_stage.specs.Attempt.{staged_name};
+ghost use Rattle.gob_stage.specs.Stages.{EachThere, HoldsAll, HoldsMore, OnlyAmong, after_finish, after_making};
+ghost use Rattle.gob_stage.specs.Stages.{after_staging, after_syncs};
 
 use crate::StageFault;
 use gob_memory::{get, set};
@@ -70,7 +72,8 @@ impl Attempt {
         ensures begun { OnOk result (self.new ≡ after_begin target.now self.old) }
         ensures disk { OnOk result
             (V.disk volume.new ≡ option_map (after_staging self.old target.now bytes.now) (V.disk volume.old)) }
-        ensures holds { OnOk result (Both (HoldsMore self.old target.now bytes.now) (V.disk volume.old) (V.disk volume.new)) }
+        ensures holds { OnOk result (Both (HoldsMore self.old target.now bytes.now) (V.disk volume.old)
+            (V.disk volume.new)) }
         ensures there { OnOk result (IfSome (V.disk volume.new) (λ d. AreThere self.new d.files)) }
         ensures err { OnErr result (self.new ≡ self.old) }
         ensures only { Along (OnlyAt (staged_name self.old target.now)) (V.disk volume.old) (V.disk volume.new) }

@@ -112,7 +112,8 @@ pub count_fits : (v : Version) (s : states.State) → Proper s → FitsVersion v
 count_fits version_1 s p f = f
 count_fits version_2 s p f = p.few
 
-pub index_is : (v : Version) (s : states.State) (i : ℕ) → Proper s → FitsVersion v s → i < length s.pipelines → IndexIs v i
+pub index_is : (v : Version) (s : states.State) (i : ℕ) → Proper s → FitsVersion v s → i < length s.pipelines
+    → IndexIs v i
 index_is version_1 s i p f below = let one : length s.pipelines ≡ 1 = f in omega arith
 index_is version_2 s i p f below = let few = p.few in omega arith
 

@@ -216,7 +216,8 @@ gathered_put d (inr s ∷ rs) above = elim (nat_lt d.span.lo s.lo) as
     ]
 
 -- mixed ranges are parted again
-pub gathered_back : (from : ℕ) (ds : List marks.Done) (os : List Span) → InOrder from (map (λ (d : marks.Done). d.span) ds)
+pub gathered_back : (from : ℕ) (ds : List marks.Done) (os : List Span)
+    → InOrder from (map (λ (d : marks.Done). d.span) ds)
     → gathered (mixed ds os) ≡ record { next = 0; finished = ds; owed = os }
 gathered_back from [] os order = each os
   where

@@ -1,17 +1,20 @@
 -- Steps that are set up one after the other.
-use Rattle.std.proofs.Common.{◌≡◌, ℕ, suc, ◌+◌, ◌-◌, ◌<◌, arith, ◌≤◌, List, [], ◌∷◌, ◌++◌, length, get_or, drop, Result, Ok, Err, Option, Some, None, refl, ap, sym, subst, ◌∙◌}
+use Rattle.std.proofs.Common.{◌≡◌, ℕ, suc, ◌+◌, ◌-◌, ◌<◌, arith, ◌≤◌, List, [], ◌∷◌, ◌++◌, length, get_or, drop, Result}
+use Rattle.std.proofs.Common.{Ok, Err, Option, Some, None, refl, ap, sym, subst, ◌∙◌}
 use Rattle.std.specs.Result.{result_unwrap_or}
 use Rattle.std.specs.List.{slice_get}
 use Rattle.std.proofs.lemmas.List.{drop_more, drop_all}
 use Rattle.std.proofs.lemmas.Option.{same_Some}
 use Rattle.gob_convert.specs.Made.{Made, made_each, then_each, made_through, shape_through, FitTogether}
 use Rattle.gob_convert.specs.Fitting.{FitTogether-append}
-use Rattle.gob_convert.proofs.MadeLemmas.{made_each-one, made_each-same, made_through-append, then_each-then_each, shape_through-last}
+use Rattle.gob_convert.proofs.MadeLemmas.{made_each-one, made_each-same, made_through-append, then_each-then_each}
+use Rattle.gob_convert.proofs.MadeLemmas.{shape_through-last}
 use Rattle.gob_plan.specs.declared.rows.Column.{Column}
 use Rattle.gob_plan.specs.declared.rows.Row.{Row}
 use Rattle.gob_plan.specs.declared.steps.StepSpec.{StepSpec}
 use Rattle.gob_plan.specs.declared.steps.Refusal.{Refusal}
-use Rattle.gob_meaning.specs.Steps.{columns_after, columns_behind, columns_through, first_refused_from, step_rows, chain_rows}
+use Rattle.gob_meaning.specs.Steps.{columns_after, columns_behind, columns_through, first_refused_from, step_rows}
+use Rattle.gob_meaning.specs.Steps.{chain_rows}
 use Rattle.gob_steps.specs.declared.step.Step.{Step}
 use Rattle.gob_steps.specs.Building.{columns_of, after_of, rows_of, columns_behind_all, IsStepFor, Building, Built}
 

@@ -1,5 +1,7 @@
 -- What each step makes of a row, by the places of its columns.
-use Rattle.std.proofs.Common.{◌≡◌, ◌≢◌, ℕ, ◌<◌, Bool, true, false, cond, not, ◌&&◌, ◌||◌, nat_eq, List, [], ◌∷◌, ◌++◌, length, map, get_or, set, Option, option_map, Some, None, Ok, Err, refl, ap, sym, subst, ◌∙◌}
+use Rattle.std.proofs.Common.{◌≡◌, ◌≢◌, ℕ, ◌<◌, Bool, true, false, cond, not, ◌&&◌, ◌||◌, nat_eq, List, [], ◌∷◌, ◌++◌}
+use Rattle.std.proofs.Common.{length, map, get_or, set, Option, option_map, Some, None, Ok, Err, refl, ap, sym, subst}
+use Rattle.std.proofs.Common.{◌∙◌}
 use Rattle.std.specs.List.{list_all}
 use Rattle.std.specs.Str.{str_to_ascii_lowercase, str_to_ascii_uppercase}
 use Rattle.std.proofs.lemmas.Bool.{cond_both}
@@ -19,12 +21,17 @@ use Rattle.gob_rowcheck.specs.Places.{stands_at}
 use Rattle.gob_meaning.proofs.Fits.{tests_fit}
 use Rattle.gob_convert.specs.Made.{Made}
 use Rattle.gob_meaning.specs.Values.{cast}
-use Rattle.gob_meaning.specs.Steps.{has_twice, first_missing, columns_named, columns_but, with_new_name, with_new_kind, with_column, is_full, each_kind, columns_after, step_rows, one_row, on_text, pieces_of, with_value, row_with_value, row_for_each_piece}
+use Rattle.gob_meaning.specs.Steps.{has_twice, first_missing, columns_named, columns_but, with_new_name, with_new_kind}
+use Rattle.gob_meaning.specs.Steps.{with_column, is_full, each_kind, columns_after, step_rows, one_row, on_text}
+use Rattle.gob_meaning.specs.Steps.{pieces_of, with_value, row_with_value, row_for_each_piece}
 use Rattle.gob_meaning.proofs.StepColumns.{told_missing, told_kind, columns_parts}
 use Rattle.gob_meaning.proofs.StepRows.{step_keeps}
 use Rattle.gob_steps.specs.Changes.{change_of}
-use Rattle.gob_steps.specs.Places.{place_of, places_of, values_at, is_below, are_apart, name_of, kept_by, changes_one, makes_many, row_with, rows_of_pieces}
-use Rattle.gob_steps.proofs.Named.{AtPlace, at_place, stands_there, all_there, there_from_kind, values_kept, places_below, places_apart, place_behind, named_there, named_values, left_there, left_values}
+use Rattle.gob_steps.specs.Places.{place_of, places_of, values_at, is_below, are_apart, name_of, kept_by, changes_one}
+use Rattle.gob_steps.specs.Places.{makes_many, row_with, rows_of_pieces}
+use Rattle.gob_steps.proofs.Named.{AtPlace, at_place, stands_there, all_there, there_from_kind, values_kept}
+use Rattle.gob_steps.proofs.Named.{places_below, places_apart, place_behind, named_there, named_values, left_there}
+use Rattle.gob_steps.proofs.Named.{left_values}
 
 -- ---- the columns that a step is for
 

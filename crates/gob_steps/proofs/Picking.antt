@@ -1,8 +1,10 @@
 -- Values that are moved out of a row, one place after the other.
-use Rattle.std.proofs.Common.{◌≡◌, ℕ, ◌+◌, ◌<◌, ◌≤◌, Bool, true, false, not, ◌&&◌, ◌||◌, nat_eq, nat_lt, List, [], ◌∷◌, ◌++◌, length, get_or, set, drop, refl, ap, sym, subst, ◌∙◌}
+use Rattle.std.proofs.Common.{◌≡◌, ℕ, ◌+◌, ◌<◌, ◌≤◌, Bool, true, false, not, ◌&&◌, ◌||◌, nat_eq, nat_lt, List, [], ◌∷◌}
+use Rattle.std.proofs.Common.{◌++◌, length, get_or, set, drop, refl, ap, sym, subst, ◌∙◌}
 use Rattle.std.specs.List.{list_all}
 use Rattle.std.proofs.lemmas.Bool.{and_parts, ltb-true, eqb-false, not-true}
-use Rattle.std.proofs.lemmas.List.{drop_more, drop_all, get_or-set_other, get_or_default, append_assoc, length-set, append-nil}
+use Rattle.std.proofs.lemmas.List.{drop_more, drop_all, get_or-set_other, get_or_default, append_assoc, length-set}
+use Rattle.std.proofs.lemmas.List.{append-nil}
 use Rattle.gob_plan.specs.declared.rows.Value.{Value}
 use Rattle.gob_plan.specs.declared.rows.Value.TheVariants as value
 use Rattle.gob_meaning.proofs.PlainLines.{or_parts}

@@ -1,5 +1,6 @@
 -- Why a step is refused, and what it makes of columns.
-use Rattle.std.proofs.Common.{◌≡◌, ℕ, ◌<◌, ◌≤◌, arith, Bool, true, false, cond, not, ◌&&◌, ◌||◌, nat_eq, List, [], ◌∷◌, length, Result, Ok, Err, Option, Some, None, IsErrAnd, refl, ap, sym, ◌∙◌}
+use Rattle.std.proofs.Common.{◌≡◌, ℕ, ◌<◌, ◌≤◌, arith, Bool, true, false, cond, not, ◌&&◌, ◌||◌, nat_eq, List, [], ◌∷◌}
+use Rattle.std.proofs.Common.{length, Result, Ok, Err, Option, Some, None, IsErrAnd, refl, ap, sym, ◌∙◌}
 use Rattle.std.proofs.lemmas.Result.{err_from_is_err_and}
 use Rattle.std.proofs.lemmas.Bool.{le-leb, lt-leb, ne_eqb}
 use Rattle.gob_plan.specs.declared.rows.Kind.{Kind}
@@ -13,7 +14,8 @@ use Rattle.gob_plan.specs.declared.steps.StepFault.{StepFault}
 use Rattle.gob_plan.specs.declared.steps.StepFault.TheVariants.{Refused, Memory}
 use Rattle.gob_plan.specs.Columns.{is_there}
 use Rattle.gob_plan.specs.Rows.{is_of, kind_of}
-use Rattle.gob_meaning.specs.Steps.{first_missing, are_bad_names, columns_named, columns_but, with_new_kind, with_column, is_full, unless_missing, of_kind, columns_after}
+use Rattle.gob_meaning.specs.Steps.{first_missing, are_bad_names, columns_named, columns_but, with_new_kind}
+use Rattle.gob_meaning.specs.Steps.{with_column, is_full, unless_missing, of_kind, columns_after}
 use Rattle.gob_steps.specs.Told.{Tells}
 
 pub told_after : (s : StepSpec) (columns after : List Column) → columns_after s columns ≡ Ok after
@@ -74,7 +76,8 @@ kind_right name right wrong after o k is fine good =
 abbrev pub set_answer : Bool → Bool → Bool → List Column → List Column → Result (List Column) Refusal
 set_answer fits here room a b = cond (fits && (here || not room)) (Ok (cond here a b)) (Err BadValue)
 
-pub set_other : (fits here room : Bool) (a b : List Column) → fits ≡ false → set_answer fits here room a b ≡ Err BadValue
+pub set_other : (fits here room : Bool) (a b : List Column) → fits ≡ false
+    → set_answer fits here room a b ≡ Err BadValue
 set_other fits here room a b is = λ i. set_answer (is i) here room a b
 
 pub set_here : (fits here room : Bool) (a b : List Column) → fits ≡ true → here ≡ true

@@ -34,7 +34,8 @@ pub record Building (specs : List StepSpec) (columns : List Column) (list : List
   pub output : columns_through (drop i specs) (columns_behind_all columns list) ≡ columns_through specs columns
   pub rows : (row : Row) → then_each (chain_rows (drop i specs) (columns_behind_all columns list))
       (made_through rows_of list row) ≡ chain_rows specs columns row
-  pub refused : first_refused_from i (drop i specs) (columns_behind_all columns list) ≡ first_refused_from 0 specs columns
+  pub refused : first_refused_from i (drop i specs) (columns_behind_all columns list) ≡ first_refused_from 0 specs
+      columns
 
 -- all are set up
 pub record Built (specs : List StepSpec) (columns : List Column) (list : List Step) : Type 0 where

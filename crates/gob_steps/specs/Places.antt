@@ -1,5 +1,6 @@
 -- Columns by their places in a row.
-use Rattle.std.specs.Prelude.{ℕ, Bool, true, false, not, ◌&&◌, nat_eq, nat_lt, List, [], ◌∷◌, map, get_or, slice_set as set, unwrap_or}
+use Rattle.std.specs.Prelude.{ℕ, Bool, true, false, not, ◌&&◌, nat_eq, nat_lt, List, [], ◌∷◌, map, get_or}
+use Rattle.std.specs.Prelude.{slice_set as set, unwrap_or}
 use Rattle.std.specs.List.{list_any, position_or_len}
 use Rattle.std.specs.Str.{bytes_eq}
 use Rattle.gob_plan.specs.declared.rows.Kind.TheVariants as kind

@@ -1,6 +1,7 @@
 //! Rows made of a row. Its values are moved, and copied only where a second row takes them.
 
-ghost use Rattle.std.specs.Prelude.{◌≡◌, ◌<◌, ◌^◌, ◌++◌, ◌∷◌, [], IfOk, IfErr, OnOk, OnErr, Some, None, true, length, get_or, slice_set, map};
+ghost use Rattle.std.specs.Prelude.{◌≡◌, ◌<◌, ◌^◌, ◌++◌, ◌∷◌, [], IfOk, IfErr, OnOk, OnErr, Some, None, true, length};
+ghost use Rattle.std.specs.Prelude.{get_or, slice_set, map};
 ghost use Rattle.std.specs.List.{list_all};
 ghost use Rattle.std.specs.Option.{option_map};
 ghost use Rattle.gob_plan.specs.declared.rows.Value.TheVariants as value;

@@ -25,7 +25,9 @@ use Rattle.gob_texts.specs.Examples.{WorkedCommands, WorkedRefusals, WorkedTexts
 use Rattle.std.specs.Str.{is_utf8, chars}
 
 pub worked : WorkedTexts
-unfolding digits percent_encode_byte is_utf8 chars lib.Utf8.encode escaped lines_from bytes_from test_holds unit_fold sent_to counts_of stop_of picks line_rows record_of made_in_branch line_made ruling warnings_of verdict_of sum_of units_of_parts next_state own_pulls turns_of verdicts_of report_of
+unfolding digits percent_encode_byte is_utf8 chars lib.Utf8.encode escaped lines_from bytes_from test_holds unit_fold
+    sent_to counts_of stop_of picks line_rows record_of made_in_branch line_made ruling warnings_of verdict_of sum_of
+    units_of_parts next_state own_pulls turns_of verdicts_of report_of
 worked = record {
   plain = record { its_units = refl; its_verdicts = refl; its_state = refl; its_text = refl };
   nothing_held = record { its_units = refl; its_verdicts = refl; its_state = refl; its_text = refl };

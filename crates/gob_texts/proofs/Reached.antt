@@ -1,5 +1,6 @@
 -- How far the done ranges reach.
-use Rattle.std.proofs.Common.{◌≡◌, ℕ, ◌<◌, ◌≤◌, Bool, true, false, cond, ◌||◌, nat_lt, List, [], ◌∷◌, refl, sym, ap, ◌∙◌, arith}
+use Rattle.std.proofs.Common.{◌≡◌, ℕ, ◌<◌, ◌≤◌, Bool, true, false, cond, ◌||◌, nat_lt, List, [], ◌∷◌, refl, sym, ap}
+use Rattle.std.proofs.Common.{◌∙◌, arith}
 use Rattle.std.specs.List.{list_any}
 use Rattle.std.proofs.lemmas.Bool.{ltb-true, ltb-false}
 use Rattle.gob_ledger.specs.Marks.{Span, Done, has, InOrder}
@@ -33,10 +34,12 @@ on_the_way : (ds : List Done) (from at : ℕ) → from ≤ at → at < reached f
 on_the_way [] from at low below = absurd (omega (arith, low, below))
 on_the_way (d ∷ ds) from at low below = cases (has from d.span) refl below (λ start l b. on_the_way ds start at l b)
   where
-    cases : (v : Bool) → has from d.span ≡ v → at < cond v (reached d.span.hi ds) (reached from ds) → ((start : ℕ) → start ≤ at → at < reached start ds → in_any at ds ≡ true) → in_any at (d ∷ ds) ≡ true
+    cases : (v : Bool) → has from d.span ≡ v → at < cond v (reached d.span.hi ds) (reached from ds)
+        → ((start : ℕ) → start ≤ at → at < reached start ds → in_any at ds ≡ true) → in_any at (d ∷ ds) ≡ true
     cases true is below later =
         elim (nat_lt at d.span.hi) as (λ v. nat_lt at d.span.hi ≡ v → in_any at (d ∷ ds) ≡ true) [
-          | true ↦ λ e. or_left (has at d.span) (in_any at ds) (let w = within from d.span is in inside at d.span (omega (arith, w.0, low)) (ltb-true at d.span.hi e))
+          | true ↦ λ e. or_left (has at d.span) (in_any at ds)
+              (let w = within from d.span is in inside at d.span (omega (arith, w.0, low)) (ltb-true at d.span.hi e))
           | false ↦ λ e. or_right (has at d.span) (in_any at ds) (later d.span.hi (ltb-false at d.span.hi e) below)
         ] refl
     cases false is below later = or_right (has at d.span) (in_any at ds) (later from low below)
@@ -46,7 +49,8 @@ not_before : (ds : List Done) (from : ℕ) → from ≤ reached from ds
 not_before [] from = omega arith
 not_before (d ∷ ds) from = cases (has from d.span) refl (not_before ds)
   where
-    cases : (v : Bool) → has from d.span ≡ v → ((start : ℕ) → start ≤ reached start ds) → from ≤ cond v (reached d.span.hi ds) (reached from ds)
+    cases : (v : Bool) → has from d.span ≡ v → ((start : ℕ) → start ≤ reached start ds)
+        → from ≤ cond v (reached d.span.hi ds) (reached from ds)
     cases true is later = let w = within from d.span is in omega (arith, w.1, later d.span.hi)
     cases false is later = later from
 
@@ -54,7 +58,8 @@ not_before (d ∷ ds) from = cases (has from d.span) refl (not_before ds)
 stays : (ds : List Done) (low from : ℕ) → InOrder low (spans ds) → from < low → reached from ds ≡ from
 stays [] low from order before = refl
 stays (d ∷ ds) low from (a, b, c) before =
-    ap (λ v. cond v (reached d.span.hi ds) (reached from ds)) (not_in from d.span (λ e. let w = within from d.span e in omega (arith, w.0, a, before)))
+    ap (λ v. cond v (reached d.span.hi ds) (reached from ds))
+    (not_in from d.span (λ e. let w = within from d.span e in omega (arith, w.0, a, before)))
     ∙ stays ds d.span.hi from c (omega (arith, a, b, before))
 
 -- where it ends is in no range
@@ -62,10 +67,12 @@ ends_outside : (ds : List Done) (low from : ℕ) → InOrder low (spans ds) → 
 ends_outside [] low from order = refl
 ends_outside (d ∷ ds) low from (a, b, c) = cases (has from d.span) refl (λ start. ends_outside ds d.span.hi start c)
   where
-    cases : (v : Bool) → has from d.span ≡ v → ((start : ℕ) → in_any (reached start ds) ds ≡ false) → in_any (cond v (reached d.span.hi ds) (reached from ds)) (d ∷ ds) ≡ false
+    cases : (v : Bool) → has from d.span ≡ v → ((start : ℕ) → in_any (reached start ds) ds ≡ false)
+        → in_any (cond v (reached d.span.hi ds) (reached from ds)) (d ∷ ds) ≡ false
     cases true is later =
         let w : ℕ = reached d.span.hi ds in
-        or_none (has w d.span) (in_any w ds) (not_in w d.span (λ e. let i = within w d.span e in omega (arith, i.1, not_before ds d.span.hi))) (later d.span.hi)
+        or_none (has w d.span) (in_any w ds) (not_in w d.span
+        (λ e. let i = within w d.span e in omega (arith, i.1, not_before ds d.span.hi))) (later d.span.hi)
     cases false is later =
         let w : ℕ = reached from ds in
         or_none (has w d.span) (in_any w ds) (not_in w d.span (λ e.
@@ -76,7 +83,8 @@ ends_outside (d ∷ ds) low from (a, b, c) = cases (has from d.span) refl (λ st
               let at : w ≡ from = stays ds d.span.hi from c (omega (arith, before, b)) in
               omega (arith, before, at, i.0)
           | false ↦ λ f.
-              let yes : has from d.span ≡ true = inside from d.span (ltb-false from d.span.lo f) (omega (arith, not_before ds from, i.1)) in
+              let yes : has from d.span ≡ true = inside from d.span (ltb-false from d.span.lo f)
+              (omega (arith, not_before ds from, i.1)) in
               let both : true ≡ false = sym yes ∙ is in
               cc
         ] refl)) (later from)

@@ -48,7 +48,8 @@ state_report job (Some s) = words (codes "job") (job ∷ []) ++ state_lines s ++
 
 unfoldable pub recovery_report : List ℕ → Bool → List ℕ
 recovery_report job was_open =
-    words (codes "recovered") (job ∷ codes "sequence" ∷ (if was_open then codes "open" else codes "none") ∷ []) ++ status_line 0
+    words (codes "recovered") (job ∷ codes "sequence" ∷ (if was_open then codes "open" else codes "none") ∷ [])
+    ++ status_line 0
 
 -- ---- check: what each branch writes, and the keys that nothing reads
 
@@ -69,7 +70,8 @@ columns_word columns = join_with_byte 44 (map (λ c. c.name ++ 58 ∷ kind_word 
 -- a branch with its format and the columns after its steps
 abbrev pub format_line : List Column → ℕ × BranchSpec → List ℕ
 format_line columns p =
-    words (codes "branch") (decimal p.0 ∷ format_word p.1.format ∷ columns_word (columns_through p.1.steps columns) ∷ [])
+    words (codes "branch") (decimal p.0 ∷ format_word p.1.format ∷ columns_word (columns_through p.1.steps columns) ∷
+    [])
 
 abbrev pub unknown_line : List ℕ → List ℕ
 unknown_line key = words (codes "unknown") (escaped key ∷ [])

@@ -12,7 +12,8 @@ use Rattle.gob_ledger.specs.State.{State}
 use Rattle.gob_ledger.specs.Units.{too_long, units_of}
 use Rattle.gob_ledger.specs.Next.{Judged, next_state}
 use Rattle.gob_ledger.specs.Turns.{verdicts_of}
-use Rattle.gob_ledger.specs.Examples.{span, done, fresh, lines_written, nothing_yet, job, two_lines, plain_state, killing, with_a_kill, after_a_kill, killed_unit, one_line_each, one_retry}
+use Rattle.gob_ledger.specs.Examples.{span, done, fresh, lines_written, nothing_yet, job, two_lines, plain_state}
+use Rattle.gob_ledger.specs.Examples.{killing, with_a_kill, after_a_kill, killed_unit, one_line_each, one_retry}
 use Rattle.std.specs.declared.option.Option.TheVariants.{None, Some}
 use Rattle.gob_plan.specs.declared.rows.Column.{Column}
 use Rattle.gob_plan.specs.declared.rows.Kind.{Kind}
@@ -23,15 +24,19 @@ use Rattle.gob_plan.specs.declared.plan.Plan.{Plan}
 use Rattle.gob_plan.specs.declared.steps.StepSpec.TheVariants as step
 use Rattle.gob_meaning.specs.Job.{Job, plain_pipeline, plain_plan}
 use Rattle.gob_texts.specs.Commands.{check_report, columns_word, recovery_report, state_report}
-use Rattle.gob_texts.specs.Refusals.{Refusal, refusal_text, usage, no_job, not_utf8, bad_escape, missing, bad_value, bad_policy_count, no_column, bad_kind, interpolation, damaged, shrunk, source_fault, volume_fault, memory, full}
+use Rattle.gob_texts.specs.Refusals.{Refusal, refusal_text, usage, no_job, not_utf8, bad_escape, missing, bad_value}
+use Rattle.gob_texts.specs.Refusals.{bad_policy_count, no_column, bad_kind, interpolation, damaged, shrunk}
+use Rattle.gob_texts.specs.Refusals.{source_fault, volume_fault, memory, full}
 use Rattle.gob_texts.specs.Report.{commits_of, report_of}
 
 -- what a run tells of its units, those committed that its policies allow
 abbrev pub told : Job → List (List ℕ) → List Judged → State → List ℕ
 told job names all after = report_of job.name job.policy names all (commits_of job.scope job.policy all) after
 
--- what a run over these partitions makes, where the turns with these numbers fail: its units, what becomes of each, the state after it, and its text
-pub record Makes (job : Job) (held : Held) (failing : List ℕ) (before : State) (units : List WorkUnit) (verdicts : List Verdict) (after : State) (text : List ℕ) : Type 0 where
+-- what a run over these partitions makes, where the turns with these numbers fail: its units, what becomes of each, the
+-- state after it, and its text
+pub record Makes (job : Job) (held : Held) (failing : List ℕ) (before : State) (units : List WorkUnit)
+    (verdicts : List Verdict) (after : State) (text : List ℕ) : Type 0 where
   pub its_units : units_of before held job.limits ≡ units
   pub its_verdicts : verdicts_of job held units failing ≡ verdicts
   pub its_state : next_state before job.pipeline units verdicts job.policy ≡ after
@@ -71,7 +76,11 @@ after_both = record plain_state { parts = (codes "a", all_done) ∷ (codes "b", 
 
 -- the second unit is committed, and the first is owed
 abbrev pub after_b_alone : State
-after_b_alone = record plain_state { totals = lines_written 1; parts = (codes "a", all_owed) ∷ (codes "b", all_done) ∷ [] }
+after_b_alone = record plain_state {
+  totals = lines_written 1;
+  parts =
+      (codes "a", all_owed) ∷ (codes "b", all_done) ∷ [];
+}
 
 -- a name of one byte more than a file's name can hold
 abbrev pub long_name : List ℕ
@@ -91,7 +100,8 @@ after_second_dataset = record plain_state { totals = lines_written 1; parts = (c
 
 -- what small runs tell
 pub record WorkedTexts : Type 0 where
-  pub plain : Makes job two_lines [] nothing_yet (fresh (codes "a.log") 0 4 ∷ []) (good (lines_written 2) [] ∷ []) plain_state
+  pub plain : Makes job two_lines [] nothing_yet (fresh (codes "a.log") 0 4 ∷ []) (good (lines_written 2) [] ∷ [])
+      plain_state
       (codes "job j1 policy full\nunit a.log 0 4 committed records 2 bad 0 rows 2 unrouted 0\nbranch 0 written 2 errors 0 optional 0\nmark a.log 4 4\ntotal records 2 bad 0 rows 2 unrouted 0\ntotal branch 0 written 2 errors 0 optional 0\nruns 1\nstatus 0\n")
   pub nothing_held : Makes job [] [] nothing_yet [] [] nothing_yet
       (codes "job j1 policy full\ntotal records 0 bad 0 rows 0 unrouted 0\ntotal branch 0 written 0 errors 0 optional 0\nruns 0\nstatus 0\n")
@@ -99,18 +109,24 @@ pub record WorkedTexts : Type 0 where
       (codes "job j1 policy full\nmark a.log 4 4\ntotal records 2 bad 0 rows 2 unrouted 0\ntotal branch 0 written 2 errors 0 optional 0\nruns 1\nstatus 0\n")
   pub one_fails : Makes killing_job with_a_kill [] nothing_yet three_units one_killed after_a_kill
       (codes "job j12 policy successful\nunit a.log 0 2 committed records 1 bad 0 rows 1 unrouted 0\nbranch 0 written 1 errors 0 optional 0\nunit a.log 2 4 failed kill 0 0 2\nunit a.log 4 6 committed records 1 bad 0 rows 1 unrouted 0\nbranch 0 written 1 errors 0 optional 0\nmark a.log 2 6\ntotal records 2 bad 0 rows 2 unrouted 0\ntotal branch 0 written 2 errors 0 optional 0\nruns 1\nstatus 1\n")
-  pub one_holds_all_back : Makes (record killing_job { policy = Full }) with_a_kill [] nothing_yet three_units one_killed nothing_yet
+  pub one_holds_all_back : Makes (record killing_job { policy = Full }) with_a_kill [] nothing_yet three_units
+      one_killed nothing_yet
       (codes "job j12 policy full\nunit a.log 0 2 held records 1 bad 0 rows 1 unrouted 0\nbranch 0 written 1 errors 0 optional 0\nunit a.log 2 4 failed kill 0 0 2\nunit a.log 4 6 held records 1 bad 0 rows 1 unrouted 0\nbranch 0 written 1 errors 0 optional 0\ntotal records 0 bad 0 rows 0 unrouted 0\ntotal branch 0 written 0 errors 0 optional 0\nruns 0\nstatus 1\n")
-  pub one_is_gone : Makes killing_job [] [] after_a_kill (record killed_unit { listed = false } ∷ []) (failed Gone ∷ []) after_a_kill
+  pub one_is_gone : Makes killing_job [] [] after_a_kill (record killed_unit { listed = false } ∷ []) (failed Gone ∷ [])
+      after_a_kill
       (codes "job j12 policy successful\nunit a.log 2 4 failed gone\nmark a.log 2 6\ntotal records 2 bad 0 rows 2 unrouted 0\ntotal branch 0 written 2 errors 0 optional 0\nruns 1\nstatus 1\n")
-  pub two_partitions : Makes job one_line_each [] nothing_yet one_each (good (lines_written 1) [] ∷ good (lines_written 1) [] ∷ []) after_both
+  pub two_partitions : Makes job one_line_each [] nothing_yet one_each
+      (good (lines_written 1) [] ∷ good (lines_written 1) [] ∷ []) after_both
       (codes "job j1 policy full\nunit a 0 2 committed records 1 bad 0 rows 1 unrouted 0\nbranch 0 written 1 errors 0 optional 0\nunit b 0 2 committed records 1 bad 0 rows 1 unrouted 0\nbranch 0 written 1 errors 0 optional 0\nmark a 2 2\nmark b 2 2\ntotal records 2 bad 0 rows 2 unrouted 0\ntotal branch 0 written 2 errors 0 optional 0\nruns 1\nstatus 0\n")
-  pub pulls_fail : Makes retrying_job one_line_each (0 ∷ 1 ∷ []) nothing_yet one_each (failed Fault ∷ good (lines_written 1) [] ∷ []) after_b_alone
+  pub pulls_fail : Makes retrying_job one_line_each (0 ∷ 1 ∷ []) nothing_yet one_each
+      (failed Fault ∷ good (lines_written 1) [] ∷ []) after_b_alone
       (codes "job j17 policy successful\nunit a 0 2 failed fault\nunit b 0 2 committed records 1 bad 0 rows 1 unrouted 0\nbranch 0 written 1 errors 0 optional 0\nmark a 0 2\nmark b 2 2\ntotal records 1 bad 0 rows 1 unrouted 0\ntotal branch 0 written 1 errors 0 optional 0\nruns 1\nstatus 1\n")
-  pub one_pull_fails : Makes retrying_job one_line_each (0 ∷ []) nothing_yet one_each (good (lines_written 1) [] ∷ good (lines_written 1) [] ∷ []) after_both
+  pub one_pull_fails : Makes retrying_job one_line_each (0 ∷ []) nothing_yet one_each
+      (good (lines_written 1) [] ∷ good (lines_written 1) [] ∷ []) after_both
       (codes "job j17 policy successful\nunit a 0 2 committed records 1 bad 0 rows 1 unrouted 0\nbranch 0 written 1 errors 0 optional 0\nunit b 0 2 committed records 1 bad 0 rows 1 unrouted 0\nbranch 0 written 1 errors 0 optional 0\nmark a 2 2\nmark b 2 2\ntotal records 2 bad 0 rows 2 unrouted 0\ntotal branch 0 written 2 errors 0 optional 0\nruns 1\nstatus 0\n")
   pub name_too_long : Makes job ((long_name, codes "x\n") ∷ []) [] nothing_yet [] [] nothing_yet
-      (codes "job j1 policy full\ntoo-long " ++ long_name ++ codes "\ntotal records 0 bad 0 rows 0 unrouted 0\ntotal branch 0 written 0 errors 0 optional 0\nruns 0\nstatus 0\n")
+      (codes "job j1 policy full\ntoo-long " ++ long_name ++ codes
+      "\ntotal records 0 bad 0 rows 0 unrouted 0\ntotal branch 0 written 0 errors 0 optional 0\nruns 0\nstatus 0\n")
   pub one_dataset : told two_datasets [] both_datasets after_second_dataset
       ≡ codes "job j16 policy full\nunit a%2Fx 0 2 failed kill 0 0 0\nunit b%2Fx 0 2 committed records 1 bad 0 rows 1 unrouted 0\nbranch 0 written 1 errors 0 optional 0\nmark b%2Fx 2 2\ntotal records 1 bad 0 rows 1 unrouted 0\ntotal branch 0 written 1 errors 0 optional 0\nruns 1\nstatus 1\n"
 
@@ -142,7 +158,13 @@ two_outputs = record plain_plan {
   format = format.Json;
   columns = column (codes "ip") kind.Text ∷ column (codes "path") kind.Text ∷ column (codes "status") kind.Int ∷ [];
   branches =
-      record { steps = step.Keep (codes "status" ∷ codes "path" ∷ []) ∷ []; policies = []; format = format.Csv; place = place.Plain }
+      record {
+        steps = step.Keep (codes "status" ∷ codes "path" ∷ []) ∷ [];
+        policies = [];
+        format = format.Csv;
+        place =
+            place.Plain;
+      }
       ∷ record { steps = []; policies = []; format = format.Json; place = place.Plain } ∷ [];
 }
 
@@ -171,10 +193,22 @@ pub record WorkedRefusals : Type 0 where
   pub escape : RefusalIs (bad_escape 2, codes "refused bad-escape 2\nstatus 3\n")
   pub no_key : RefusalIs (missing (codes "source.format"), codes "refused missing source.format\nstatus 3\n")
   pub value : RefusalIs (bad_value (codes "task.slots"), codes "refused bad-value task.slots\nstatus 3\n")
-  pub count : RefusalIs (bad_policy_count (codes "qualitychecker.row.policy.types"), codes "refused bad-policy-count qualitychecker.row.policy.types\nstatus 3\n")
-  pub column_absent : RefusalIs (no_column (codes "converter.classes") (codes "a"), codes "refused no-column converter.classes a\nstatus 3\n")
-  pub column_kind : RefusalIs (bad_kind (codes "writer.format") (codes "id"), codes "refused bad-kind writer.format id\nstatus 3\n")
-  pub dollar : RefusalIs (interpolation (codes "writer.format"), codes "refused interpolation writer.format\nstatus 3\n")
+  pub count : RefusalIs (
+    bad_policy_count (codes "qualitychecker.row.policy.types"),
+    codes "refused bad-policy-count qualitychecker.row.policy.types\nstatus 3\n",
+  )
+  pub column_absent : RefusalIs (
+    no_column (codes "converter.classes") (codes "a"),
+    codes "refused no-column converter.classes a\nstatus 3\n",
+  )
+  pub column_kind : RefusalIs (
+    bad_kind (codes "writer.format") (codes "id"),
+    codes "refused bad-kind writer.format id\nstatus 3\n",
+  )
+  pub dollar : RefusalIs (
+    interpolation (codes "writer.format"),
+    codes "refused interpolation writer.format\nstatus 3\n",
+  )
   pub file : RefusalIs (damaged (codes "j1/state"), codes "refused damaged j1/state\nstatus 4\n")
   pub shorter : RefusalIs (shrunk (codes "a b") 4 2, codes "refused shrunk a%20b 4 2\nstatus 4\n")
   pub source : RefusalIs (source_fault, codes "refused source-fault\nstatus 5\n")

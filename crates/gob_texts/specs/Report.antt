@@ -33,12 +33,14 @@ too_long_line part = words (codes "too-long") (escaped part ∷ [])
 -- counts, each with its word
 abbrev pub tally : Counts → List (List ℕ)
 tally c =
-    codes "records" ∷ decimal c.records ∷ codes "bad" ∷ decimal c.bad ∷ codes "rows" ∷ decimal c.rows ∷ codes "unrouted" ∷ decimal c.unrouted ∷ []
+    codes "records" ∷ decimal c.records ∷ codes "bad" ∷ decimal c.bad ∷ codes "rows" ∷ decimal c.rows ∷ codes "unrouted"
+    ∷ decimal c.unrouted ∷ []
 
 -- a branch's number and its counts, each with its word
 abbrev pub branch_tally : ℕ × BranchCounts → List (List ℕ)
 branch_tally p =
-    decimal p.0 ∷ codes "written" ∷ decimal p.1.written ∷ codes "errors" ∷ decimal p.1.errors ∷ codes "optional" ∷ decimal p.1.optional ∷ []
+    decimal p.0 ∷ codes "written" ∷ decimal p.1.written ∷ codes "errors" ∷ decimal p.1.errors ∷ codes "optional" ∷
+    decimal p.1.optional ∷ []
 
 -- why a unit failed
 abbrev pub cause_words : Cause → List (List ℕ)
@@ -62,7 +64,8 @@ warning_lines warnings = flat_map (λ w. numbered (codes "warning") (w ∷ [])) 
 -- what became of a unit; a good one that the policy doesn't let through is held
 abbrev pub unit_lines : Bool → WorkUnit → Verdict → List ℕ
 unit_lines allowed u (good counts warnings) =
-    unit_line u ((if allowed then codes "committed" else codes "held") ∷ tally counts) ++ branch_lines counts ++ warning_lines warnings
+    unit_line u ((if allowed then codes "committed" else codes "held") ∷ tally counts) ++ branch_lines counts
+    ++ warning_lines warnings
 unit_lines allowed u (failed why) = unit_line u (codes "failed" ∷ cause_words why)
 
 -- the units in order, each as it was committed or not
@@ -87,7 +90,8 @@ mark_line e = words (codes "mark") (escaped e.0 ∷ decimal (watermark_of e.1) �
 
 -- what all units made, in all and in each branch
 abbrev pub count_lines : Counts → List ℕ
-count_lines c = words (codes "total") (tally c) ++ flat_map (λ b. words (codes "total") (codes "branch" ∷ branch_tally b)) (enumerate_from 0 c.branches)
+count_lines c = words (codes "total") (tally c) ++ flat_map (λ b.
+    words (codes "total") (codes "branch" ∷ branch_tally b)) (enumerate_from 0 c.branches)
 
 -- what the state says in all
 abbrev pub total_lines : State → List ℕ

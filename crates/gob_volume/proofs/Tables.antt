@@ -1,5 +1,6 @@
 -- A table after a change, as a map.
-use Rattle.std.proofs.Common.{◌≡◌, ◌≢◌, ℕ, Bool, true, false, cond, List, [], ◌∷◌, map, get_or, refl, sym, ap, subst, ◌∙◌, Some, None, IsSome, option_map}
+use Rattle.std.proofs.Common.{◌≡◌, ◌≢◌, ℕ, Bool, true, false, cond, List, [], ◌∷◌, map, get_or, refl, sym, ap, subst}
+use Rattle.std.proofs.Common.{◌∙◌, Some, None, IsSome, option_map}
 use Rattle.std.proofs.Math.ListN.{set}
 use Rattle.std.specs.declared.option.Option.{Option}
 use Rattle.std.specs.Str.{bytes_eq}
@@ -10,10 +11,12 @@ use Rattle.gob_memory.specs.Places.{StandsAt, without_name}
 use Rattle.gob_memory.proofs.Places.{at-changed, at-without, with-changed}
 use Rattle.gob_volume.specs.Crashes.{after_crash, image_of}
 
-pub map-with : (t : Table File) (name : List ℕ) (file : File) → at_name (with_name t name file) ≡ put (at_name t) name (Some file)
+pub map-with : (t : Table File) (name : List ℕ) (file : File)
+    → at_name (with_name t name file) ≡ put (at_name t) name (Some file)
 map-with t name file = λ i q. at-with_name t name file q i
 
-pub map-without : (t : Table File) (name : List ℕ) → IsInByteOrder (names_of t) → at_name (without_name t name) ≡ put (at_name t) name None
+pub map-without : (t : Table File) (name : List ℕ) → IsInByteOrder (names_of t)
+    → at_name (without_name t name) ≡ put (at_name t) name None
 map-without t name rising = λ i q. at-without t name q rising i
 
 -- a file that was changed in its place
@@ -22,7 +25,8 @@ pub record InPlace (t : Table File) (name : List ℕ) (place : ℕ) (before : Li
   pub stands : StandsAt t name place
   pub read : before ≡ get_or t place before
 
-pub map-changed : (change : File → File) (t : Table File) (name : List ℕ) (place : ℕ) (before : List ℕ × File) (left : File) → InPlace t name place before → left ≡ change before.1
+pub map-changed : (change : File → File) (t : Table File) (name : List ℕ) (place : ℕ) (before : List ℕ × File)
+    (left : File) → InPlace t name place before → left ≡ change before.1
     → at_name (set t place (before.0, left)) ≡ put (at_name t) name (option_map change (at_name t name))
 map-changed change t name place before left at is =
     let there : at_name t name ≡ Some before.1 = at-changed t name place before at.rising at.stands at.read in
@@ -30,15 +34,18 @@ map-changed change t name place before left at is =
     ∙ map-with t name left
     ∙ ap (put (at_name t) name) (ap Some is ∙ sym (ap (option_map change) there))
 
-pub rising-changed : (t : Table File) (name : List ℕ) (place : ℕ) (before : List ℕ × File) (left : File) → InPlace t name place before → IsInByteOrder (names_of (set t place (before.0, left)))
-rising-changed t name place before left at = subst (λ u. IsInByteOrder (names_of u)) (sym (with-changed t name place before left at.stands at.read)) (rising-with_name t name left at.rising)
+pub rising-changed : (t : Table File) (name : List ℕ) (place : ℕ) (before : List ℕ × File) (left : File)
+    → InPlace t name place before → IsInByteOrder (names_of (set t place (before.0, left)))
+rising-changed t name place before left at = subst (λ u. IsInByteOrder (names_of u))
+    (sym (with-changed t name place before left at.stands at.read)) (rising-with_name t name left at.rising)
 
 -- ---- a file that gets another name
 
 pub put_there : (m : Files) (name : List ℕ) (file : Option File) → put m name file name ≡ file
 put_there m name file = ap (λ b. cond b file (m name)) (name_itself name)
 
-pub put_elsewhere : (m : Files) (name other : List ℕ) (file : Option File) → other ≢ name → put m name file other ≡ m other
+pub put_elsewhere : (m : Files) (name other : List ℕ) (file : Option File) → other ≢ name
+    → put m name file other ≡ m other
 put_elsewhere m name other file apart = ap (λ b. cond b file (m other)) (two_names other name apart)
 
 cond_shadowed : {A : Type 0} (b c : Bool) (x y z w : A) → cond b x (cond c y (cond b z w)) ≡ cond b x (cond c y w)
@@ -54,12 +61,14 @@ renamed m source target some file is = λ i q. (
 
 -- ---- every file changed alike
 
-at-map : (change : File → File) (t : Table File) (q : List ℕ) → at_name (map (λ e. (e.0, change e.1)) t) q ≡ option_map change (at_name t q)
+at-map : (change : File → File) (t : Table File) (q : List ℕ)
+    → at_name (map (λ e. (e.0, change e.1)) t) q ≡ option_map change (at_name t q)
 at-map change [] q = refl
 at-map change (e ∷ es) q = cases (bytes_eq q e.0) (at-map change es q)
   where
     cases : (b : Bool) → at_name (map (λ f. (f.0, change f.1)) es) q ≡ option_map change (at_name es q)
-        → cond b (Some (change e.1)) (at_name (map (λ f. (f.0, change f.1)) es) q) ≡ option_map change (cond b (Some e.1) (at_name es q))
+        → cond b (Some (change e.1)) (at_name (map (λ f. (f.0, change f.1)) es) q) ≡ option_map change
+        (cond b (Some e.1) (at_name es q))
     cases true later = refl
     cases false later = later
 
@@ -67,6 +76,7 @@ pub names-map : (change : File → File) (t : Table File) → names_of (map (λ 
 names-map change [] = refl
 names-map change (e ∷ es) = ap (λ names. e.0 ∷ names) (names-map change es)
 
-pub map-crash : (tail : List ℕ) (t : Table File) → at_name (map (λ e. (e.0, image_of tail e.1)) t) ≡ after_crash tail (at_name t)
+pub map-crash : (tail : List ℕ) (t : Table File) → at_name (map (λ e. (e.0, image_of tail e.1)) t) ≡ after_crash tail
+    (at_name t)
 unfolding after_crash
 map-crash tail t = λ i q. at-map (image_of tail) t q i

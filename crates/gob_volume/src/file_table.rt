@@ -1,6 +1,7 @@
 //! The files of a volume in memory.
 
-ghost use Rattle.std.specs.Prelude.{◌≡◌, ◌≢◌, ◌≤◌, filter, length, map, option_map, IfOk, IfSome, IsOk, IsSome, OnErr, OnOk};
+ghost use Rattle.std.specs.Prelude.{◌≡◌, ◌≢◌, ◌≤◌, filter, length, map, option_map, IfOk, IfSome, IsOk, IsSome, OnErr};
+ghost use Rattle.std.specs.Prelude.{OnOk};
 ghost use Rattle.gob_bytes.specs.Paths.{begins_with};
 ghost use Rattle.gob_bytes.specs.Tables.{IsInByteOrder, names_of};
 ghost use Rattle.gob_device.specs.Disk.{IsListing, clean, contents_at, no_files, put};

@@ -1,6 +1,7 @@
 //! A volume in memory.
 
-ghost use Rattle.std.specs.Prelude.{◌≡◌, ◌≢◌, ◌≤◌, ◌-◌, [], length, option_map, IfOk, IfSome, IsErr, IsSome, OnErr, OnOk};
+ghost use Rattle.std.specs.Prelude.{◌≡◌, ◌≢◌, ◌≤◌, ◌-◌, [], length, option_map, IfOk, IfSome, IsErr, IsSome, OnErr};
+ghost use Rattle.std.specs.Prelude.{OnOk};
 ghost use Rattle.gob_device.specs.Causes.{CountsFailure};
 ghost use Rattle.gob_device.specs.Disk.{ChangesFile, ChangesWhole, Image, IsListing, contents_at, no_files};
 ghost use Rattle.gob_device.specs.Disk.{after_append, after_create, after_remove, after_rename, after_sync};
@@ -61,10 +62,11 @@ impl MemVolume {
         self.failures.fuse = Some(calls);
     }
 
-    /// Becomes what a crash leaves: each dirty file has its kept bytes and then these, and all files are kept whole. The
-    /// fuse is gone and the trail is empty then. Without memory all stays as it was.
+    /// Becomes what a crash leaves: each dirty file has its kept bytes and then these, and all files are kept whole.
+    /// The fuse is gone and the trail is empty then. Without memory all stays as it was.
     pub fn crash(&mut self, tail: &[u8]) -> Result<(), NoMemory>
-        ensures ok { OnOk result (told_by self.new ≡ record { files = after_crash tail.now (told_by self.old).files; trail = [] }) }
+        ensures ok { OnOk result (told_by self.new
+            ≡ record { files = after_crash tail.now (told_by self.old).files; trail = [] }) }
         ensures image { OnOk result (Image (told_by self.old).files (told_by self.new).files) }
         ensures fuse { OnOk result (failures_of self.new ≡ record (failures_of self.old) { fuse = None }) }
         ensures err { OnErr result (told_by self.new ≡ told_by self.old) }
@@ -100,7 +102,8 @@ impl Volume for MemVolume {
 
     fn create(&mut self, name: &str) -> Result<(), Failed>
         requires { IsPathname name.now }
-        ensures change { ChangesWhole (after_create name.now) (Some (told_by self.old)) (Some (told_by self.new)) result }
+        ensures change { ChangesWhole (after_create name.now) (Some (told_by self.old)) (Some (told_by self.new))
+            result }
         ensures cause { CountsFailure (volume_counts self.old).faults (volume_counts self.new).faults (IsErr result) }
         ensures failed { OnErr result (told_by self.new ≡ told_by self.old) }
         ensures planned { FailsAsSet (λ left. left - 1) (failures_of self.old) (failures_of self.new) (IsErr result) }
@@ -142,7 +145,8 @@ impl Volume for MemVolume {
     fn sync(&mut self, name: &str) -> Result<(), Failed>
         requires named { IsPathname name.now }
         requires there { IsSome ((told_by self.old).files name.now) }
-        ensures change { ChangesFile name.now (after_sync name.now) (Some (told_by self.old)) (Some (told_by self.new)) result }
+        ensures change { ChangesFile name.now (after_sync name.now) (Some (told_by self.old)) (Some (told_by self.new))
+            result }
         ensures cause { CountsFailure (volume_counts self.old).faults (volume_counts self.new).faults (IsErr result) }
         ensures failed { OnErr result (FailsAt name.now self.old self.new) }
         ensures planned { FailsAsSet (λ left. left - 1) (failures_of self.old) (failures_of self.new) (IsErr result) }
@@ -165,7 +169,8 @@ impl Volume for MemVolume {
         requires named { IsPathname from.now × IsPathname to.now }
         requires there { IsSome ((told_by self.old).files from.now) }
         requires differ { from.now ≢ to.now }
-        ensures change { ChangesWhole (after_rename from.now to.now) (Some (told_by self.old)) (Some (told_by self.new)) result }
+        ensures change { ChangesWhole (after_rename from.now to.now) (Some (told_by self.old)) (Some (told_by self.new))
+            result }
         ensures cause { CountsFailure (volume_counts self.old).faults (volume_counts self.new).faults (IsErr result) }
         ensures failed { OnErr result (told_by self.new ≡ told_by self.old) }
         ensures planned { FailsAsSet (λ left. left - 1) (failures_of self.old) (failures_of self.new) (IsErr result) }
@@ -183,7 +188,8 @@ impl Volume for MemVolume {
 
     fn remove(&mut self, name: &str) -> Result<(), Failed>
         requires { IsPathname name.now }
-        ensures change { ChangesWhole (after_remove name.now) (Some (told_by self.old)) (Some (told_by self.new)) result }
+        ensures change { ChangesWhole (after_remove name.now) (Some (told_by self.old)) (Some (told_by self.new))
+            result }
         ensures cause { CountsFailure (volume_counts self.old).faults (volume_counts self.new).faults (IsErr result) }
         ensures failed { OnErr result (told_by self.new ≡ told_by self.old) }
         ensures planned { FailsAsSet (λ left. left - 1) (failures_of self.old) (failures_of self.new) (IsErr result) }
@@ -201,10 +207,13 @@ impl Volume for MemVolume {
 
     fn read(&mut self, alloc: Global, name: &str) -> Result<Option<Vec<u8>>, ReadFault>
         requires { IsPathname name.now }
-        ensures bytes { IfOk result (λ found. option_map (λ v. v.items) found ≡ contents_at (told_by self.old).files name.now) }
+        ensures bytes { IfOk result (λ found. option_map (λ v. v.items) found
+            ≡ contents_at (told_by self.old).files name.now) }
         ensures disk { told_by self.new ≡ told_by self.old }
-        ensures cause { CountsFailure (volume_counts self.old).faults (volume_counts self.new).faults (result ≡ Err ReadFault.Failed) }
-        ensures planned { FailsAsSet (λ left. left) (failures_of self.old) (failures_of self.new) (result ≡ Err ReadFault.Failed) }
+        ensures cause { CountsFailure (volume_counts self.old).faults (volume_counts self.new).faults
+            (result ≡ Err ReadFault.Failed) }
+        ensures planned { FailsAsSet (λ left. left) (failures_of self.old) (failures_of self.new)
+            (result ≡ Err ReadFault.Failed) }
     {
         if self.failures.stops_read() {
             self.failures.counts.fail();
@@ -250,8 +259,10 @@ impl Volume for MemVolume {
     fn names(&mut self, alloc: Global, prefix: &str) -> Result<Vec<Text>, ReadFault>
         ensures names { IfOk result (λ names. IsListing prefix.now (told_by self.old).files names.items) }
         ensures disk { told_by self.new ≡ told_by self.old }
-        ensures cause { CountsFailure (volume_counts self.old).faults (volume_counts self.new).faults (result ≡ Err ReadFault.Failed) }
-        ensures planned { FailsAsSet (λ left. left) (failures_of self.old) (failures_of self.new) (result ≡ Err ReadFault.Failed) }
+        ensures cause { CountsFailure (volume_counts self.old).faults (volume_counts self.new).faults
+            (result ≡ Err ReadFault.Failed) }
+        ensures planned { FailsAsSet (λ left. left) (failures_of self.old) (failures_of self.new)
+            (result ≡ Err ReadFault.Failed) }
     {
         if self.failures.stops_read() {
             self.failures.counts.fail();

@@ -69,7 +69,8 @@ impl Store {
     /// Adds loose bytes to a file.
     pub fn append(&mut self, name: &str, bytes: &[u8]) -> Result<(), NoMemory>
         requires { IsSome ((disk_of self.old).files name.now) }
-        ensures ok { OnOk result (disk_of self.new ≡ after_change (after_append name.now bytes.now) (disk_of self.old)) }
+        ensures ok { OnOk result (disk_of self.new
+            ≡ after_change (after_append name.now bytes.now) (disk_of self.old)) }
         ensures err { OnErr result (disk_of self.new ≡ disk_of self.old) }
     {
         let name = Text::from_str(self.alloc, name)?;
@@ -133,7 +134,8 @@ impl Store {
 
     /// Becomes the image in which these bytes stand in place of loose ones, and begins the trail anew.
     pub fn crash(&mut self, tail: &[u8]) -> Result<(), NoMemory>
-        ensures ok { OnOk result (disk_of self.new ≡ record { files = after_crash tail.now (disk_of self.old).files; trail = [] }) }
+        ensures ok { OnOk result (disk_of self.new
+            ≡ record { files = after_crash tail.now (disk_of self.old).files; trail = [] }) }
         ensures err { OnErr result (disk_of self.new ≡ disk_of self.old) }
     {
         let tail = Bytes::from_slice(self.alloc, tail)?;

@@ -1,4 +1,5 @@
-use Rattle.gob_meaning.proofs.Computed.{ruling_table, fork_table, sent_table, target_table, sum_table, rule_table, result_table, gone_unit, stop_table, name_table}
+use Rattle.gob_meaning.proofs.Computed.{ruling_table, fork_table, sent_table, target_table, sum_table, rule_table}
+use Rattle.gob_meaning.proofs.Computed.{result_table, gone_unit, stop_table, name_table}
 use Rattle.gob_meaning.proofs.tables_of_units.Goals as goal
 
 pub returns-clause-rulings : goal.returns-clause-rulings

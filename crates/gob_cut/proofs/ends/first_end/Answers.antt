@@ -7,15 +7,19 @@ pub returns-in-Some-clause-end : goal.returns-in-Some-clause-end
 returns-in-Some-clause-end g c =
     let inv = c.loop-at.invariant in
     let len = c.min-len.result in
-    first_found (g.S.Source.supply c.args.source.now) (g.S.Source.supply c.loop-at.source) c.args.part.now c.args.size c.args.lo c.loop-at.at len (length (take len c.loop-at.window)) c.in-Some.end c.in_ok-seen.found
-    inv.supply inv.firsts c.in_ok-seen.ensures.end c.in-Some.is (omega (arith, length-take len c.loop-at.window)) (omega arith)
+    first_found (g.S.Source.supply c.args.source.now) (g.S.Source.supply c.loop-at.source) c.args.part.now c.args.size
+    c.args.lo c.loop-at.at len (length (take len c.loop-at.window)) c.in-Some.end c.in_ok-seen.found
+    inv.supply inv.firsts c.in_ok-seen.ensures.end c.in-Some.is (omega (arith, length-take len c.loop-at.window))
+    (omega arith)
 
 pub returns-then-seen-len-clause-end : goal.returns-then-seen-len-clause-end
 returns-then-seen-len-clause-end g c =
     let inv = c.loop-at.invariant in
     let len = c.min-len.result in
-    first_short (g.S.Source.supply c.args.source.now) (g.S.Source.supply c.loop-at.source) c.args.part.now c.args.size c.args.lo c.loop-at.at len (length (take len c.loop-at.window)) c.in_ok-seen.seen
-    inv.supply c.in_ok-seen.ensures.seen c.if-seen-len.true (omega (arith, length-take len c.loop-at.window)) (omega arith)
+    first_short (g.S.Source.supply c.args.source.now) (g.S.Source.supply c.loop-at.source) c.args.part.now c.args.size
+    c.args.lo c.loop-at.at len (length (take len c.loop-at.window)) c.in_ok-seen.seen
+    inv.supply c.in_ok-seen.ensures.seen c.if-seen-len.true (omega (arith, length-take len c.loop-at.window))
+    (omega arith)
 
 pub loop-at-preserved : goal.loop-at-preserved
 loop-at-preserved g c =
@@ -24,13 +28,23 @@ loop-at-preserved g c =
     record {
       low = omega (arith, inv.low);
       high = omega arith;
-      room = omega (arith, inv.room, length-append c.look_for_first.new.window (drop len c.loop-at.window), length-drop len c.loop-at.window, length-take len c.loop-at.window, c.look_for_first.auto.window);
+      room = omega (
+        arith,
+        inv.room,
+        length-append c.look_for_first.new.window (drop len c.loop-at.window),
+        length-drop len c.loop-at.window,
+        length-take len c.loop-at.window,
+        c.look_for_first.auto.window,
+      );
       supply = c.in_ok-seen.ensures.supply ∙ inv.supply;
       faults = omega (arith, c.in_ok-seen.ensures.cause.later, inv.faults);
       planned = omega (arith, c.in_ok-seen.ensures.planned.later, inv.planned);
-      firsts = first_passed (g.S.Source.supply c.args.source.now) (g.S.Source.supply c.loop-at.source) c.args.part.now c.args.size c.args.lo c.loop-at.at len (length (take len c.loop-at.window)) c.in_ok-seen.found
-          inv.supply inv.firsts c.in_ok-seen.ensures.end c.in-None.is (omega (arith, length-take len c.loop-at.window)) (omega arith);
+      firsts = first_passed (g.S.Source.supply c.args.source.now) (g.S.Source.supply c.loop-at.source) c.args.part.now
+          c.args.size c.args.lo c.loop-at.at len (length (take len c.loop-at.window)) c.in_ok-seen.found
+          inv.supply inv.firsts c.in_ok-seen.ensures.end c.in-None.is (omega (arith, length-take len c.loop-at.window))
+          (omega arith);
     }
 
 pub returns-clause-end : goal.returns-clause-end
-returns-clause-end g c = first_none (g.S.Source.supply c.args.source.now) c.args.part.now c.args.size c.args.lo c.loop-at.at c.loop-at.invariant.firsts (omega arith)
+returns-clause-end g c = first_none (g.S.Source.supply c.args.source.now) c.args.part.now c.args.size c.args.lo
+    c.loop-at.at c.loop-at.invariant.firsts (omega arith)

@@ -5,12 +5,15 @@ use Rattle.gob_cut.proofs.Places.{first_within}
 use Rattle.gob_cut.proofs.ends.look_for_first.Goals as goal
 
 pub returns-clause-seen : goal.returns-clause-seen
-returns-clause-seen g c = count_told (g.S.Source.supply c.args.source.now) c.args.part.now c.args.at _ c.in_ok-n.n c.look.new.into c.in_ok-n.ensures.bytes
+returns-clause-seen g c = count_told (g.S.Source.supply c.args.source.now) c.args.part.now c.args.at _ c.in_ok-n.n
+    c.look.new.into c.in_ok-n.ensures.bytes
 
 pub returns-clause-end : goal.returns-clause-end
 returns-clause-end g c =
-    first_told (g.S.Source.supply c.args.source.now) c.args.part.now c.args.at _ c.in_ok-n.n c.look.new.into c.first_line_end.result c.in_ok-n.ensures.bytes c.first_line_end.ensures
+    first_told (g.S.Source.supply c.args.source.now) c.args.part.now c.args.at _ c.in_ok-n.n c.look.new.into
+    c.first_line_end.result c.in_ok-n.ensures.bytes c.first_line_end.ensures
 
 pub returns-clause-within : goal.returns-clause-within
 returns-clause-within g c =
-    first_within c.first_line_end.result (take c.in_ok-n.n c.look.new.into) _ c.first_line_end.ensures (omega (arith, length-take c.in_ok-n.n c.look.new.into, c.look.auto.into))
+    first_within c.first_line_end.result (take c.in_ok-n.n c.look.new.into) _ c.first_line_end.ensures
+    (omega (arith, length-take c.in_ok-n.n c.look.new.into, c.look.auto.into))

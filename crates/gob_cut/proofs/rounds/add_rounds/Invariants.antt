@@ -13,7 +13,8 @@ invariant-loop-alloc g l = record {
   planned : g.S.Source.plan_faults l.fn.source ≤ g.S.Source.plan_faults l.source;
   goes : Goes l.fn.kept l.fn.cursors.items l.going.items l.fn.units l.units;
   count : length l.units + l.left ≡ length l.fn.units + l.fn.most;
-  units : RoundsGo (g.S.Source.supply l.fn.source) l.fn.kept l.fn.max l.fn.most l.fn.cursors.items l.fn.units l.left l.going.items l.units;
+  units : RoundsGo (g.S.Source.supply l.fn.source) l.fn.kept l.fn.max l.fn.most l.fn.cursors.items l.fn.units l.left
+      l.going.items l.units;
 }
 
 abbrev pub decreases-loop-alloc : goal.decreases-loop-alloc

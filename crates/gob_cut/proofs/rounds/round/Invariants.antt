@@ -14,5 +14,6 @@ invariant-loop-cursor g l = record {
   planned : g.S.Source.plan_faults l.fn.source ≤ g.S.Source.plan_faults l.source;
   goes : Goes l.fn.kept l.fn.cursors (l.going.items ++ drop l.cursor-index l.fn.cursors) l.fn.units l.units;
   count : length l.units ≡ length l.fn.units + length l.going.items;
-  units : TakesRounds (g.S.Source.supply l.fn.source) l.fn.kept l.fn.max l.fn.most l.fn.cursors l.going.items (drop l.cursor-index l.fn.cursors) l.fn.units l.units;
+  units : TakesRounds (g.S.Source.supply l.fn.source) l.fn.kept l.fn.max l.fn.most l.fn.cursors l.going.items
+      (drop l.cursor-index l.fn.cursors) l.fn.units l.units;
 }

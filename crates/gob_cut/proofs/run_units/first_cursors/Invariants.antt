@@ -13,5 +13,6 @@ invariant-loop-place l = record {
   below : AllByRecursion (λ c. c.place < l.place) l.cursors.items;
   begins : AllByRecursion (BeginsAt l.kept (next_of l.marks)) l.cursors.items;
   cuts : (held : Held) (max : ℕ) → AreSized held l.kept
-      → all_rounds (lists_of held max l.kept l.cursors.items ++ all_cuts_of held l.marks max (drop l.place l.kept)) ≡ all_rounds (all_cuts_of held l.marks max l.kept);
+      → all_rounds (lists_of held max l.kept l.cursors.items ++ all_cuts_of held l.marks max (drop l.place l.kept)) ≡
+      all_rounds (all_cuts_of held l.marks max l.kept);
 }

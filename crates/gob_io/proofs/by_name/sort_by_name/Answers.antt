@@ -27,8 +27,10 @@ loop-done-preserved-in-Ok c =
       next = c.remove-name.ensures.value;
       fits = omega (arith, ap length c.as_slice.ensures);
     } in
-    let stands : StandsAt (take done items) c.remove-name.result.0 c.in-Ok.place = rw (front, c.as_str.ensures) at c.in-Ok.ensures in
-    rw c.remove-name.ensures.items (sorts_there c.args.parts.items items done c.in-Ok.place c.remove-name.result.0 c.remove-name.result.1 c.loop-done.invariant next stands)
+    let stands : StandsAt (take done items) c.remove-name.result.0 c.in-Ok.place =
+    rw (front, c.as_str.ensures) at c.in-Ok.ensures in
+    rw c.remove-name.ensures.items (sorts_there c.args.parts.items items done c.in-Ok.place c.remove-name.result.0
+    c.remove-name.result.1 c.loop-done.invariant next stands)
 
 pub loop-done-preserved : goal.loop-done-preserved
 loop-done-preserved c =
@@ -42,5 +44,8 @@ loop-done-preserved c =
       next = c.remove-name.ensures.value;
       fits = omega (arith, ap length c.as_slice.ensures);
     } in
-    let goes : GoesAt (take done items) c.remove-name.result.0 c.in-Err.place = rw (front, c.as_str.ensures) at c.in-Err.ensures in
-    rw (c.in_default.ensures.items, c.remove-name.ensures.items) (sorts_new c.args.parts.items items done c.in-Err.place c.remove-name.result.0 c.remove-name.result.1 c.loop-done.invariant next goes)
+    let goes : GoesAt (take done items) c.remove-name.result.0 c.in-Err.place =
+    rw (front, c.as_str.ensures) at c.in-Err.ensures in
+    rw (c.in_default.ensures.items, c.remove-name.ensures.items)
+    (sorts_new c.args.parts.items items done c.in-Err.place c.remove-name.result.0 c.remove-name.result.1
+    c.loop-done.invariant next goes)

@@ -10,11 +10,16 @@ loop-byte-preserved c =
     let bytes = c.loop-byte.bytes in
     let i = c.loop-byte.byte-index in
     let within : i < length bytes = omega arith in
-    rw c.only_line_end.ensures (map_over_more line_end_or_zero c.args.bytes.now bytes i (get_or bytes i 0) (omega arith) c.loop-byte.invariant (get_or_default bytes i 0 (get_or bytes i 0) within))
+    rw c.only_line_end.ensures (map_over_more line_end_or_zero c.args.bytes.now bytes i (get_or bytes i 0) (omega arith)
+    c.loop-byte.invariant (get_or_default bytes i 0 (get_or bytes i 0) within))
 
 pub returns : goal.returns
 unfolding seen_by_look
 returns c =
     let i = c.loop-byte.byte-index in
     let all = c.args.bytes.now in
-    c.loop-byte.invariant ∙ simp (take_all i all c.loop-byte-test.false, drop_all i all c.loop-byte-test.false, append-nil)
+    c.loop-byte.invariant ∙ simp (
+      take_all i all c.loop-byte-test.false,
+      drop_all i all c.loop-byte-test.false,
+      append-nil,
+    )

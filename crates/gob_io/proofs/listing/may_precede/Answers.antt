@@ -9,6 +9,7 @@ returns-then-is_entry c = (
 
 pub returns-else-is_entry : goal.returns-else-is_entry
 returns-else-is_entry c = (
-  λ both. listed_before _ _ (c.is_entry.ensures.0 both.0) (let is = both.0 in let off = c.if-is_entry.false in cc) both.1,
+  λ both. listed_before _ _ (c.is_entry.ensures.0 both.0) (let is = both.0 in let off = c.if-is_entry.false in cc)
+      both.1,
   λ listed. let parts = listed_behind _ _ listed in (c.is_entry.ensures.1 parts.0.0, parts.1),
 )

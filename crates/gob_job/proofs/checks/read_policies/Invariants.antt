@@ -7,4 +7,6 @@ use Rattle.gob_job.specs.Loops.{behind_ok}
 use Rattle.gob_job.proofs.checks.read_policies.Given as goal
 
 abbrev pub invariant-loop-element : goal.invariant-loop-element
-invariant-loop-element l = behind_ok l.policies (value_map (map strict_policy) (each_or_fault (test_read l.fn.columns) (texts_of (drop l.element-index l.fn.elements)))) ≡ value_map (map strict_policy) (each_or_fault (test_read l.fn.columns) (texts_of l.fn.elements))
+invariant-loop-element l = behind_ok l.policies (value_map (map strict_policy)
+    (each_or_fault (test_read l.fn.columns) (texts_of (drop l.element-index l.fn.elements)))) ≡ value_map
+    (map strict_policy) (each_or_fault (test_read l.fn.columns) (texts_of l.fn.elements))

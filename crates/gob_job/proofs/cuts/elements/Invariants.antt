@@ -6,7 +6,8 @@ use Rattle.gob_job.proofs.cuts.elements.Given as goal
 
 abbrev pub invariant-loop-left : goal.invariant-loop-left
 invariant-loop-left l = record {
-  pieces : map trimmed (pieces (nat_eq l.fn.separator) l.fn.value) ≡ texts_of l.elements.items ++ map trimmed (pieces_left (nat_eq l.fn.separator) l.left);
+  pieces : map trimmed (pieces (nat_eq l.fn.separator) l.fn.value) ≡ texts_of l.elements.items
+      ++ map trimmed (pieces_left (nat_eq l.fn.separator) l.left);
   some : list_any is_empty (texts_of l.elements.items) ≡ false;
 }
 

@@ -7,4 +7,5 @@ pub returns : goal.returns
 unfolding words_of
 returns c =
     let words = texts_of c.loop-left.words.items in
-    sym (append-nil words) ∙ (ap (λ o. words ++ filter (λ word. not (is_empty word)) (pieces_left is_blank o)) (sym c.in_default.is) ∙ sym c.loop-left.invariant)
+    sym (append-nil words) ∙ (ap (λ o. words ++ filter (λ word. not (is_empty word)) (pieces_left is_blank o))
+    (sym c.in_default.is) ∙ sym c.loop-left.invariant)

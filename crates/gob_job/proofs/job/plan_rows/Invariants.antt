@@ -4,4 +4,5 @@ use Rattle.gob_job.specs.Rows.{rows_from}
 use Rattle.gob_job.proofs.job.plan_rows.Given as goal
 
 abbrev pub invariant-loop-row : goal.invariant-loop-row
-invariant-loop-row l = rows_from l.some.items ++ filter tells_plan (rows_from (drop l.row-index l.fn.rows)) ≡ filter tells_plan (rows_from l.fn.rows)
+invariant-loop-row l = rows_from l.some.items ++ filter tells_plan (rows_from (drop l.row-index l.fn.rows)) ≡ filter
+    tells_plan (rows_from l.fn.rows)

@@ -6,4 +6,5 @@ use Rattle.gob_jobs.specs.KeyTable.{column_read}
 use Rattle.gob_job.proofs.lists.each_column.Given as goal
 
 abbrev pub invariant-loop-element : goal.invariant-loop-element
-invariant-loop-element l = behind l.columns (each_read column_read (texts_of (drop l.element-index l.fn.elements))) ≡ each_read column_read (texts_of l.fn.elements)
+invariant-loop-element l = behind l.columns (each_read column_read (texts_of (drop l.element-index l.fn.elements))) ≡
+    each_read column_read (texts_of l.fn.elements)

@@ -7,4 +7,6 @@ use Rattle.gob_job.specs.Names.{named}
 use Rattle.gob_job.proofs.lists.each_named.Given as goal
 
 abbrev pub invariant-loop-element : goal.invariant-loop-element
-invariant-loop-element g l = behind l.values (each_read (at_name (map named l.fn.table)) (texts_of (drop l.element-index l.fn.elements))) ≡ each_read (at_name (map named l.fn.table)) (texts_of l.fn.elements)
+invariant-loop-element g l = behind l.values (each_read (at_name (map named l.fn.table))
+    (texts_of (drop l.element-index l.fn.elements))) ≡ each_read (at_name (map named l.fn.table))
+    (texts_of l.fn.elements)

@@ -6,4 +6,5 @@ use Rattle.gob_jobs.specs.Words.{number_within}
 use Rattle.gob_job.proofs.lists.each_place.Given as goal
 
 abbrev pub invariant-loop-element : goal.invariant-loop-element
-invariant-loop-element l = behind l.places (each_read (number_within 0 63) (texts_of (drop l.element-index l.fn.elements))) ≡ each_read (number_within 0 63) (texts_of l.fn.elements)
+invariant-loop-element l = behind l.places (each_read (number_within 0 63)
+    (texts_of (drop l.element-index l.fn.elements))) ≡ each_read (number_within 0 63) (texts_of l.fn.elements)

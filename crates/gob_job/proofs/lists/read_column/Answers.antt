@@ -5,5 +5,7 @@ use Rattle.gob_job.proofs.lists.read_column.Goals as goal
 
 pub returns-then-is_some : goal.returns-then-is_some
 returns-then-is_some c =
-    let p = past_two (nat_eq 58) c.args.element.now _ _ c.split_piece.result.1 c.split_piece-2.result.1 _ c.split_piece.ensures.pieces c.in-Some.is c.split_piece-2.ensures.pieces (sym c.is_some.ensures ∙ c.if-is_some.true) in
+    let p = past_two (nat_eq 58) c.args.element.now _ _ c.split_piece.result.1 c.split_piece-2.result.1 _
+    c.split_piece.ensures.pieces c.in-Some.is c.split_piece-2.ensures.pieces
+    (sym c.is_some.ensures ∙ c.if-is_some.true) in
     sym (ap column_of_pieces p.2)

@@ -6,5 +6,6 @@ use Rattle.gob_job.proofs.pipeline.escaped.Goals as goal
 
 pub unreachable-requires : goal.unreachable-requires
 unreachable-requires c =
-    let is = c.in_ok-push_escaped.ensures.ok ∙ ap (λ (x : List ℕ). x ++ escaped c.args.name.now) c.new-bytes.ensures.items in
+    let is = c.in_ok-push_escaped.ensures.ok ∙ ap (λ (x : List ℕ). x ++ escaped c.args.name.now)
+    c.new-bytes.ensures.items in
     true≢false (sym (c.in-Err.ensures.succeeds (subst IsUtf8 (sym is) (escaped_text c.args.name.now))))

@@ -7,7 +7,8 @@ use Rattle.gob_job.proofs.pipeline.settings_in.Given as goal
 
 abbrev pub invariant-loop-rest : goal.invariant-loop-rest
 invariant-loop-rest l =
-    behind (map setting_from l.settings) (settings_of_lines (pieces (nat_eq 10) l.left)) ≡ settings_of_lines (pieces (nat_eq 10) l.fn.text)
+    behind (map setting_from l.settings) (settings_of_lines (pieces (nat_eq 10) l.left)) ≡ settings_of_lines
+    (pieces (nat_eq 10) l.fn.text)
 
 abbrev pub decreases-loop-rest : goal.decreases-loop-rest
 decreases-loop-rest l = length l.left

@@ -7,4 +7,6 @@ use Rattle.gob_job.specs.Loops.{behind}
 use Rattle.gob_job.proofs.rules.policies_of.Given as goal
 
 abbrev pub invariant-loop-element : goal.invariant-loop-element
-invariant-loop-element l = behind l.policies (option_map (map strict_rule) (each_read (rule_read l.fn.branches) (texts_of (drop l.element-index l.fn.elements)))) ≡ option_map (map strict_rule) (each_read (rule_read l.fn.branches) (texts_of l.fn.elements))
+invariant-loop-element l = behind l.policies (option_map (map strict_rule)
+    (each_read (rule_read l.fn.branches) (texts_of (drop l.element-index l.fn.elements)))) ≡ option_map
+    (map strict_rule) (each_read (rule_read l.fn.branches) (texts_of l.fn.elements))

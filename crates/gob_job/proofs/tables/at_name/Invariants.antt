@@ -4,4 +4,5 @@ use Rattle.gob_job.specs.Names.{named}
 use Rattle.gob_job.proofs.tables.at_name.Given as goal
 
 abbrev pub invariant-loop-entry : goal.invariant-loop-entry
-invariant-loop-entry g l = at_name (map named (drop l.entry-index l.fn.table)) l.fn.word ≡ at_name (map named l.fn.table) l.fn.word
+invariant-loop-entry g l = at_name (map named (drop l.entry-index l.fn.table)) l.fn.word ≡ at_name
+    (map named l.fn.table) l.fn.word

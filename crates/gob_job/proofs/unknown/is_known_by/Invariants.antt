@@ -6,4 +6,6 @@ use Rattle.gob_job.specs.Rows.{rows_from}
 use Rattle.gob_job.proofs.unknown.is_known_by.Given as goal
 
 abbrev pub invariant-loop-row : goal.invariant-loop-row
-invariant-loop-row l = list_any (bytes_eq l.fn.key) (flat_map (keys_of_row l.fn.branches) (rows_from (drop l.row-index l.fn.rows))) ≡ list_any (bytes_eq l.fn.key) (flat_map (keys_of_row l.fn.branches) (rows_from l.fn.rows))
+invariant-loop-row l = list_any (bytes_eq l.fn.key) (flat_map (keys_of_row l.fn.branches)
+    (rows_from (drop l.row-index l.fn.rows))) ≡ list_any (bytes_eq l.fn.key)
+    (flat_map (keys_of_row l.fn.branches) (rows_from l.fn.rows))

@@ -9,5 +9,6 @@ unreachable-requires c = key_missing c.args.props.now c.loop-i.i (omega arith) c
 
 pub loop-i-preserved : goal.loop-i-preserved
 loop-i-preserved c =
-    unknown_step (branches_told (at_name c.args.props.now)) c.args.props.now c.loop-i.i c.loop-i.unknown _ c.in-Some.key.now (omega arith) c.in-Some.ensures c.loop-i.invariant
+    unknown_step (branches_told (at_name c.args.props.now)) c.args.props.now c.loop-i.i c.loop-i.unknown _
+    c.in-Some.key.now (omega arith) c.in-Some.ensures c.loop-i.invariant
     (rw c.branches_told-branches.ensures at c.in_ok-push_unknown-in-Some.ensures)

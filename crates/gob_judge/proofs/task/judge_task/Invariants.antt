@@ -6,4 +6,5 @@ use Rattle.gob_judge.proofs.task.judge_task.Given as goal
 abbrev pub invariant-loop-policy : goal.invariant-loop-policy
 invariant-loop-policy l =
     (l.index ≡ l.policy-index)
-    × (first_failing (enumerate_from l.policy-index (drop l.policy-index l.fn.policies)) l.fn.counts ≡ first_failing (enumerate_from 0 l.fn.policies) l.fn.counts)
+    × (first_failing (enumerate_from l.policy-index (drop l.policy-index l.fn.policies)) l.fn.counts ≡ first_failing
+    (enumerate_from 0 l.fn.policies) l.fn.counts)

@@ -13,6 +13,7 @@ branches-preserved c =
     let next : suc (length before) ≡ length c.push.new.self = omega (arith, long) in
     record {
       few = omega (arith, long);
-      made = grown ∙ ap (λ (bs : List BranchCounts). bs ++ one ∷ []) c.branches.invariant.made ∙ none_more (length before)
+      made = grown ∙ ap (λ (bs : List BranchCounts). bs ++ one ∷ []) c.branches.invariant.made
+          ∙ none_more (length before)
           ∙ ap none_counted next;
     }

@@ -39,4 +39,5 @@ returns c = λ raw.
     ∙ line_added before l c.records_in.result c.bad_in.result c.rows_in.result c.unrouted_in.result c.from_vec.result
     (c.records_in.ensures raw items) (c.bad_in.ensures raw items) (c.rows_in.ensures raw items)
     (c.unrouted_in.ensures raw items)
-    (back ∙ c.add_branches.ensures ∙ sums ∙ ap (branch_sums before.branches) (same_branches (length before.branches) l items own))
+    (back ∙ c.add_branches.ensures ∙ sums ∙ ap (branch_sums before.branches)
+    (same_branches (length before.branches) l items own))

@@ -4,4 +4,5 @@ use Rattle.gob_texts.specs.Commands.{unknown_line}
 use Rattle.gob_report.proofs.branches.push_unknown.Given as goal
 
 abbrev pub invariant-loop-i : goal.invariant-loop-i
-invariant-loop-i l = l.into.items ++ flat_map unknown_line (drop l.i l.fn.unknown) ≡ l.fn.into.items ++ flat_map unknown_line l.fn.unknown
+invariant-loop-i l = l.into.items ++ flat_map unknown_line (drop l.i l.fn.unknown) ≡ l.fn.into.items
+    ++ flat_map unknown_line l.fn.unknown

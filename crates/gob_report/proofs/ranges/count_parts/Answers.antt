@@ -6,7 +6,8 @@ use Rattle.gob_report.proofs.ranges.count_parts.Goals as goal
 
 pub loop-i-preserved : goal.loop-i-preserved
 loop-i-preserved c =
-    let at = got_at c.args.table.now c.loop-i.i (c.in-Some.field-0-0.now, c.in-Some.marks.now) (sym c.in-Some.ensures) in
+    let at = got_at c.args.table.now c.loop-i.i (c.in-Some.field-0-0.now, c.in-Some.marks.now) (sym c.in-Some.ensures)
+    in
     part_counted c.args.counts.now c.loop-i.counts _ c.args.table.now c.loop-i.i
     (c.in-Some.field-0-0.now, c.in-Some.marks.now) at.0 at.1 c.loop-i.invariant
     (c.in_ok-count_done-in-Some.ensures ∙ ap (λ ds. counted_from 0 c.loop-i.counts (made_by ds)) c.done.ensures.done)

@@ -5,5 +5,6 @@ use Rattle.gob_report.proofs.totals.push_branches.Given as goal
 
 abbrev pub invariant-loop-i : goal.invariant-loop-i
 invariant-loop-i l =
-    l.into.items ++ flat_map (tally_line l.fn.first (map word_text l.fn.front)) (enumerate_from l.i (drop l.i l.fn.branches))
+    l.into.items ++ flat_map (tally_line l.fn.first (map word_text l.fn.front))
+    (enumerate_from l.i (drop l.i l.fn.branches))
     ≡ l.fn.into.items ++ flat_map (tally_line l.fn.first (map word_text l.fn.front)) (enumerate_from 0 l.fn.branches)

@@ -85,7 +85,15 @@ returns-in_err-results g c =
     } in
     let e = c.take_turns.ensures in
     let say = turns_say job l cut c.in_ok-rules.rules c.as_slice.result.now failing old new begins theirs e.told
-    (record { maps = e.maps; failed = e.failing; source = e.source; planned = e.planned; volume = e.cause.later; pulled = e.pulled }) in
+    (record {
+      maps = e.maps;
+      failed = e.failing;
+      source = e.source;
+      planned = e.planned;
+      volume =
+          e.cause.later;
+      pulled = e.pulled;
+    }) in
     let fault = c.in_err-results.field-0.0 in
     let p = err_from_is_err_and c.from_residual-in_err-results.result c.from_residual-in_err-results.ensures.1 in
     at_err (λ (a : Answer). Worked job failing l cut a old new) c.from_residual-in_err-results.result p.0
@@ -185,7 +193,15 @@ returns-in_err-committed g c =
     } in
     let e = c.take_turns.ensures in
     let say = turns_say job l cut c.in_ok-rules.rules c.as_slice.result.now failing old mid begins theirs e.told
-    (record { maps = e.maps; failed = e.failing; source = e.source; planned = e.planned; volume = e.cause.later; pulled = e.pulled }) in
+    (record {
+      maps = e.maps;
+      failed = e.failing;
+      source = e.source;
+      planned = e.planned;
+      volume =
+          e.cause.later;
+      pulled = e.pulled;
+    }) in
     let end = turns_end job l cut c.in_ok-rules.rules c.as_slice.result.now failing results old mid begins theirs say
     c.in_ok-results.ensures.whole c.in_ok-results.ensures.given c.in_ok-results.ensures.given_up in
     let f = c.commit_groups.ensures in
@@ -240,7 +256,15 @@ returns g c =
     } in
     let e = c.take_turns.ensures in
     let say = turns_say job l cut c.in_ok-rules.rules c.as_slice.result.now failing old mid begins theirs e.told
-    (record { maps = e.maps; failed = e.failing; source = e.source; planned = e.planned; volume = e.cause.later; pulled = e.pulled }) in
+    (record {
+      maps = e.maps;
+      failed = e.failing;
+      source = e.source;
+      planned = e.planned;
+      volume =
+          e.cause.later;
+      pulled = e.pulled;
+    }) in
     let end = turns_end job l cut c.in_ok-rules.rules c.as_slice.result.now failing results old mid begins theirs say
     c.in_ok-results.ensures.whole c.in_ok-results.ensures.given c.in_ok-results.ensures.given_up in
     let f = c.commit_groups.ensures in

@@ -27,7 +27,8 @@ returns-then-not-take_text c = no_end (version_of c.args.version) c.args.state c
     c.take_text.ensures c.if-not-take_text.true
 
 pub returns-then-not-is_done : goal.returns-then-not-is_done
-returns-then-not-is_done c = more_behind (version_of c.args.version) c.args.state c.args.bytes.now _ _ _ c.take_run.result
+returns-then-not-is_done c = more_behind (version_of c.args.version) c.args.state c.args.bytes.now _ _ _
+    c.take_run.result
     c.in_ok-rest.field-0 c.take_text.result
     (run_reads (version_of c.args.version) c.args.state _ c.args.bytes.now _ c.state.inside.run c.take_run.result
     c.new-text.ensures (ap (λ (s : State). s.run) c.state.view_is) c.take_run.ensures) c.in_ok-rest.ensures

@@ -18,6 +18,7 @@ returns-in_default-2 c = changes_missing (version_of c.args.version) c.args.pipe
     (omega (arith, c.len.ensures, c.if-len-least.false)) c.in_ok-marks.ensures c.in_default-2.is
 
 pub returns : goal.returns
-returns c = counted_there (version_of c.args.version) c.args.pipelines c.args.least c.args.before c.in-Some-2.marks _ _ _
+returns c = counted_there (version_of c.args.version) c.args.pipelines c.args.least c.args.before c.in-Some-2.marks _ _
+    _
     c.in_ok-totals.field-0 c.in-Some.totals c.in_ok-marks.field-0 c.in_ok-totals.ensures c.in-Some.is
     (omega (arith, c.len.ensures, c.if-len-least.false)) c.in_ok-marks.ensures c.in-Some-2.is

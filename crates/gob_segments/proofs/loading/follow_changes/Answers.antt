@@ -40,7 +40,8 @@ loop-name-preserved g c = record {
   leads = leads_more c.args.job.now (version_of c.args.version) c.args.base c.loop-name.state _ c.args.names.now
       c.loop-name.name-index c.as_str.result.now c.name-item.result _ _ c.loop-name.invariant.disk (search rules)
       c.name-item.is c.as_str.ensures c.loop-name.invariant.leads c.in_ok-state.ensures.next;
-  led = led_more c.args.base c.loop-name.state _ c.loop-name.name-index c.loop-name.invariant.led c.in_ok-state.ensures.led;
+  led = led_more c.args.base c.loop-name.state _ c.loop-name.name-index c.loop-name.invariant.led
+      c.in_ok-state.ensures.led;
   disk = c.next_state.ensures.disk ∙ c.loop-name.invariant.disk;
   goes_on = omega (arith, c.loop-name.invariant.goes_on, c.next_state.ensures.goes_on);
 }

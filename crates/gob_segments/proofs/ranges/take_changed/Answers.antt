@@ -2,7 +2,8 @@ use Rattle.std.proofs.Common.{Some, Option, subst}
 use Rattle.gob_state.specs.Ranges.{TakesRange}
 use Rattle.gob_state.specs.Versions.{version_of}
 use Rattle.gob_state.specs.declared.ranges.RangeLine.{RangeLine}
-use Rattle.gob_segments.proofs.PutLines.{begins_low, next_put, none_put_read, nothing_put, put_malformed, put_read, put_refused}
+use Rattle.gob_segments.proofs.PutLines.{begins_low, next_put, none_put_read, nothing_put, put_malformed, put_read}
+use Rattle.gob_segments.proofs.PutLines.{put_refused}
 use Rattle.gob_segments.proofs.ranges.take_changed.Goals as goal
 
 pub loop-next-init : goal.loop-next-init

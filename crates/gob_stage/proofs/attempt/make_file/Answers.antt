@@ -9,8 +9,10 @@ returns-in_err-create-clause-only g c = created_only c.args.name.now c.create.en
 
 pub returns-in_err-append-clause-only : goal.returns-in_err-append-clause-only
 returns-in_err-append-clause-only g c =
-    made_only c.args.name.now (created_only c.args.name.now c.create.ensures.change) (appended_only c.args.name.now c.args.bytes.now c.append.ensures.change)
+    made_only c.args.name.now (created_only c.args.name.now c.create.ensures.change)
+    (appended_only c.args.name.now c.args.bytes.now c.append.ensures.change)
 
 pub returns-clause-only : goal.returns-clause-only
 returns-clause-only g c =
-    made_only c.args.name.now (created_only c.args.name.now c.create.ensures.change) (appended_only c.args.name.now c.args.bytes.now c.append.ensures.change)
+    made_only c.args.name.now (created_only c.args.name.now c.create.ensures.change)
+    (appended_only c.args.name.now c.args.bytes.now c.append.ensures.change)

@@ -12,7 +12,8 @@ sync-requires-clause-named g c =
     let i = c.loop-name.name-index in
     let e = c.loop-name-item.result in
     let next = next_name files i e (omega arith) c.loop-name-item.is in
-    subst IsPathname (sym c.as_str.ensures) (next_named (map (λ e. e.1) files) i e.1 _ next c.loop-name.invariant.synced.named)
+    subst IsPathname (sym c.as_str.ensures) (next_named (map (λ e. e.1) files) i e.1 _ next
+    c.loop-name.invariant.synced.named)
 
 pub sync-requires-clause-there : goal.sync-requires-clause-there
 sync-requires-clause-there g c =
@@ -30,7 +31,8 @@ returns-in_err-sync-clause-only g c =
     let e = c.loop-name-item.result in
     let next = next_name files i e (omega arith) c.loop-name-item.is in
     among_next (map (λ e. e.1) files) i e.1 _ next c.loop-name.invariant.synced.only
-    (subst (λ n. Along (OnlyAt n) (g.V.Volume.disk c.loop-name.volume) (g.V.Volume.disk c.sync.new.self)) c.as_str.ensures (synced_only c.as_str.result.now c.sync.ensures.change))
+    (subst (λ n. Along (OnlyAt n) (g.V.Volume.disk c.loop-name.volume) (g.V.Volume.disk c.sync.new.self))
+    c.as_str.ensures (synced_only c.as_str.result.now c.sync.ensures.change))
 
 pub loop-name-preserved : goal.loop-name-preserved
 loop-name-preserved g c =
@@ -42,11 +44,14 @@ loop-name-preserved g c =
     let next = next_name files i e (omega arith) c.loop-name-item.is in
     record {
       synced = syncs_more (map (λ e. e.1) files) i e.1 _ now new next c.loop-name.invariant.synced
-          (subst (λ n. new ≡ option_map (after_change (after_sync n)) now) c.as_str.ensures c.in_ok-sync.ensures.change.ok)
-          (subst (λ n. Along (OnlyAt n) now new) c.as_str.ensures (synced_only c.as_str.result.now c.sync.ensures.change));
+          (subst (λ n. new ≡ option_map (after_change (after_sync n)) now) c.as_str.ensures
+          c.in_ok-sync.ensures.change.ok)
+          (subst (λ n. Along (OnlyAt n) now new) c.as_str.ensures
+          (synced_only c.as_str.result.now c.sync.ensures.change));
       later = omega (arith, c.loop-name.invariant.later, c.sync.ensures.cause.later);
     }
 
 pub returns-clause-disk : goal.returns-clause-disk
 returns-clause-disk g c =
-    syncs_all (map (λ e. e.1) c.args.files.now) c.loop-name.name-index _ _ (no_name c.args.files.now c.loop-name.name-index (omega arith)) c.loop-name.invariant.synced
+    syncs_all (map (λ e. e.1) c.args.files.now) c.loop-name.name-index _ _
+    (no_name c.args.files.now c.loop-name.name-index (omega arith)) c.loop-name.invariant.synced

@@ -11,9 +11,11 @@ unfolding columns_after
 returns-in_default c =
     let name = c.args.column.now in
     let columns = c.args.columns.now in
-    let is : kind_of name columns ≡ None = kind_told _ name columns _ None c.as_str.ensures c.kind_of.ensures c.in_default.is in
+    let is : kind_of name columns ≡ None = kind_told _ name columns _ None c.as_str.ensures c.kind_of.ensures
+    c.in_default.is in
     told_refused (step.Cast name c.args.kind) columns (NoColumn name) c.in_ok-no_column.field-0
-    (kind_missing name each_kind (λ k. false) (λ k. with_new_kind name c.args.kind columns) (kind_of name columns) is) c.in_ok-no_column.ensures
+    (kind_missing name each_kind (λ k. false) (λ k. with_new_kind name c.args.kind columns) (kind_of name columns) is)
+    c.in_ok-no_column.ensures
 
 pub returns : goal.returns
 unfolding columns_after
@@ -23,7 +25,8 @@ returns c =
     let k = c.in-Some.field-0 in
     let is : kind_of name columns ≡ Some k =
     kind_told _ name columns _ (Some k) c.as_str.ensures c.kind_of.ensures c.in-Some.is in (
-      kind_right name each_kind (λ k. false) (λ k. with_new_kind name c.args.kind columns) (kind_of name columns) k is refl
+      kind_right name each_kind (λ k. false) (λ k. with_new_kind name c.args.kind columns) (kind_of name columns) k is
+          refl
           refl ∙ ap Ok (sym c.in_ok-with_new_kind.ensures),
       tt,
     )

@@ -12,9 +12,11 @@ unfolding columns_after
 returns-in_default c =
     let name = c.args.from.now in
     let columns = c.args.columns.now in
-    let is : kind_of name columns ≡ None = kind_told _ name columns _ None c.as_str.ensures c.kind_of.ensures c.in_default.is in
+    let is : kind_of name columns ≡ None = kind_told _ name columns _ None c.as_str.ensures c.kind_of.ensures
+    c.in_default.is in
     told_refused (step.Copy name c.args.to.now) columns (NoColumn name) c.in_ok-no_column.field-0
-    (kind_missing name each_kind (λ k. is_there c.args.to.now columns || is_full columns) (λ k. with_column c.args.to.now k columns) (kind_of name columns) is) c.in_ok-no_column.ensures
+    (kind_missing name each_kind (λ k. is_there c.args.to.now columns || is_full columns)
+    (λ k. with_column c.args.to.now k columns) (kind_of name columns) is) c.in_ok-no_column.ensures
 
 pub returns-then-is_there : goal.returns-then-is_there
 unfolding columns_after

@@ -11,7 +11,8 @@ unfolding columns_after
 returns-in_default c =
     let name = c.args.column.now in
     let columns = c.args.columns.now in
-    let is : kind_of name columns ≡ None = kind_told _ name columns _ None c.as_str.ensures c.kind_of.ensures c.in_default.is in
+    let is : kind_of name columns ≡ None = kind_told _ name columns _ None c.as_str.ensures c.kind_of.ensures
+    c.in_default.is in
     told_refused (step.Upper name) columns (NoColumn name) c.in_ok-no_column.field-0
     (kind_missing name is_text (λ k. false) (λ k. columns) (kind_of name columns) is) c.in_ok-no_column.ensures
 

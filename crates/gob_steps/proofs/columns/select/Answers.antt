@@ -12,9 +12,11 @@ unfolding columns_after
 returns-in_default c =
     let name = c.args.test.now.column in
     let columns = c.args.columns.now in
-    let is : kind_of name columns ≡ None = kind_told _ name columns _ None c.as_str.ensures c.kind_of.ensures c.in_default.is in
+    let is : kind_of name columns ≡ None = kind_told _ name columns _ None c.as_str.ensures c.kind_of.ensures
+    c.in_default.is in
     told_refused (step.Where c.args.test.now) columns (NoColumn name) c.in_ok-no_column.field-0
-    (kind_missing name (check_takes c.args.test.now.check) (λ k. not (check_is_right c.args.test.now.check k)) (λ k. columns) (kind_of name columns) is) c.in_ok-no_column.ensures
+    (kind_missing name (check_takes c.args.test.now.check) (λ k. not (check_is_right c.args.test.now.check k))
+    (λ k. columns) (kind_of name columns) is) c.in_ok-no_column.ensures
 
 pub returns-then-not-takes : goal.returns-then-not-takes
 unfolding columns_after

@@ -5,4 +5,5 @@ use Rattle.gob_io.proofs.dir_source.DirSourceSource.look.Goals as goal
 
 pub returns-in-Ok-clause-shape : goal.returns-in-Ok-clause-shape
 returns-in-Ok-clause-shape g c =
-    rw c.keep_line_ends.ensures (looked-front c.in-Ok.n _ _ (length-take-le c.in-Ok.n c.fill.new.into (omega (arith, c.in-Ok.ensures.within, c.fill.auto.into))))
+    rw c.keep_line_ends.ensures (looked-front c.in-Ok.n _ _ (length-take-le c.in-Ok.n c.fill.new.into
+    (omega (arith, c.in-Ok.ensures.within, c.fill.auto.into))))

@@ -7,4 +7,6 @@ use Rattle.gob_job.specs.Rows.{rows_from}
 use Rattle.gob_job.proofs.reading.Reading.read_branches.Given as goal
 
 abbrev pub invariant-loop-branch : goal.invariant-loop-branch
-invariant-loop-branch l = read_branches (look_of l.fn.values) (rows_from l.fn.rows) (range_with_len l.branch (l.fn.branches - l.branch)) (reading_from l.self) ≡ read_branches (look_of l.fn.values) (rows_from l.fn.rows) (range_with_len 0 l.fn.branches) (reading_from l.fn.self)
+invariant-loop-branch l = read_branches (look_of l.fn.values) (rows_from l.fn.rows)
+    (range_with_len l.branch (l.fn.branches - l.branch)) (reading_from l.self) ≡ read_branches (look_of l.fn.values)
+    (rows_from l.fn.rows) (range_with_len 0 l.fn.branches) (reading_from l.fn.self)

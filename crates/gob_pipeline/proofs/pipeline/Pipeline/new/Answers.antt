@@ -1,4 +1,5 @@
-use Rattle.gob_pipeline.proofs.Making.{branches_fit, branches_short, columns_sent, few_branches, few_steps, set_up, steps_accepted, tests_fit}
+use Rattle.gob_pipeline.proofs.Making.{branches_fit, branches_short, columns_sent, few_branches, few_steps, set_up}
+use Rattle.gob_pipeline.proofs.Making.{steps_accepted, tests_fit}
 use Rattle.gob_pipeline.proofs.pipeline.Pipeline.new.Goals as goal
 
 pub new-requires : goal.new-requires

@@ -33,10 +33,12 @@ returns-clause-ok c =
     c.send_line.new.buffers line c.stop_at-self.result c.add_line.new.counts c.left_behind-self.result
     c.in_ok-end.ensures.made (c.stop_at-self.ensures c.args.raw.now)
     (not_some c.stop_at-self.result c.in_default.not-Some) c.in_ok-send_line.ensures.ok
-    (c.add_line.ensures c.args.raw.now ∙ ap (λ n. sum_of c.args.self.now.counts (counts_of_line n line)) c.requires.branches)
+    (c.add_line.ensures c.args.raw.now ∙ ap (λ n. sum_of c.args.self.now.counts (counts_of_line n line))
+    c.requires.branches)
     (c.left_behind-self.ensures c.args.raw.now c.make_line.new.workspace.items)
 
 pub returns-clause-counts : goal.returns-clause-counts
 returns-clause-counts c =
     let line = line_of_end c.in_ok-end.end c.args.raw.now c.make_line.new.workspace.items in
-    ap (λ (k : Counts). length k.branches) (c.add_line.ensures c.args.raw.now) ∙ counts_length c.args.self.now.counts line
+    ap (λ (k : Counts). length k.branches) (c.add_line.ensures c.args.raw.now)
+    ∙ counts_length c.args.self.now.counts line

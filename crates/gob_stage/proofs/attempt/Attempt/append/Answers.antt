@@ -19,7 +19,8 @@ append-requires-clause-named g c =
       begun_is = ap (λ v. v.begun) c.self.view_is;
       kept = c.self.invariant;
     } in
-    let found : Some c.in-Some.name.now ≡ at_name c.self.inside.files.items c.args.target.now = rw c.as_slice.ensures.value at c.in-Some.ensures in
+    let found : Some c.in-Some.name.now ≡ at_name c.self.inside.files.items c.args.target.now =
+    rw c.as_slice.ensures.value at c.in-Some.ensures in
     subst IsPathname (sym c.as_str.ensures) (found_path _ _ _ c.args.target.now _ o found)
 
 pub append-requires-clause-there : goal.append-requires-clause-there
@@ -31,10 +32,12 @@ append-requires-clause-there g c =
       begun_is = ap (λ v. v.begun) c.self.view_is;
       kept = c.self.invariant;
     } in
-    let found : Some c.in-Some.name.now ≡ at_name c.self.inside.files.items target = rw c.as_slice.ensures.value at c.in-Some.ensures in
+    let found : Some c.in-Some.name.now ≡ at_name c.self.inside.files.items target =
+    rw c.as_slice.ensures.value at c.in-Some.ensures in
     let name : c.as_str.result.now ≡ staged_name a target = c.as_str.ensures ∙ found_name _ _ _ target _ o found in
     told_map (λ d. AreThere a d.files) (λ d. IsSome (d.files c.as_str.result.now))
-    (λ d there. subst (λ n. IsSome (d.files n)) (sym name) (there target (found_begun _ _ _ target _ o found))) _ c.requires.there
+    (λ d there. subst (λ n. IsSome (d.files n)) (sym name) (there target (found_begun _ _ _ target _ o found))) _
+    c.requires.there
 
 pub returns-in_err-append-in-Some-clause-only : goal.returns-in_err-append-in-Some-clause-only
 returns-in_err-append-in-Some-clause-only g c =
@@ -45,13 +48,16 @@ returns-in_err-append-in-Some-clause-only g c =
       begun_is = ap (λ v. v.begun) c.self.view_is;
       kept = c.self.invariant;
     } in
-    let found : Some c.in-Some.name.now ≡ at_name c.self.inside.files.items target = rw c.as_slice.ensures.value at c.in-Some.ensures in
+    let found : Some c.in-Some.name.now ≡ at_name c.self.inside.files.items target =
+    rw c.as_slice.ensures.value at c.in-Some.ensures in
     let name : c.as_str.result.now ≡ staged_name a target = c.as_str.ensures ∙ found_name _ _ _ target _ o found in
-    subst (λ n. Along (OnlyAt n) (g.V.Volume.disk c.args.volume.now) (g.V.Volume.disk c.append.new.self)) name (appended_only c.as_str.result.now c.args.bytes.now c.append.ensures.change)
+    subst (λ n. Along (OnlyAt n) (g.V.Volume.disk c.args.volume.now) (g.V.Volume.disk c.append.new.self)) name
+    (appended_only c.as_str.result.now c.args.bytes.now c.append.ensures.change)
 
 pub returns-in_err-append-in-Some-clause-below : goal.returns-in_err-append-in-Some-clause-below
 returns-in_err-append-in-Some-clause-below g c =
-    below_at c.args.self.now.folder (staged_name c.args.self.now c.args.target.now) (front_more c.args.self.now.folder c.args.target.now) (returns-in_err-append-in-Some-clause-only g c)
+    below_at c.args.self.now.folder (staged_name c.args.self.now c.args.target.now)
+    (front_more c.args.self.now.folder c.args.target.now) (returns-in_err-append-in-Some-clause-only g c)
 
 pub returns-in_ok-append-in-Some-clause-only : goal.returns-in_ok-append-in-Some-clause-only
 returns-in_ok-append-in-Some-clause-only g c =
@@ -62,13 +68,16 @@ returns-in_ok-append-in-Some-clause-only g c =
       begun_is = ap (λ v. v.begun) c.self.view_is;
       kept = c.self.invariant;
     } in
-    let found : Some c.in-Some.name.now ≡ at_name c.self.inside.files.items target = rw c.as_slice.ensures.value at c.in-Some.ensures in
+    let found : Some c.in-Some.name.now ≡ at_name c.self.inside.files.items target =
+    rw c.as_slice.ensures.value at c.in-Some.ensures in
     let name : c.as_str.result.now ≡ staged_name a target = c.as_str.ensures ∙ found_name _ _ _ target _ o found in
-    subst (λ n. Along (OnlyAt n) (g.V.Volume.disk c.args.volume.now) (g.V.Volume.disk c.append.new.self)) name (appended_only c.as_str.result.now c.args.bytes.now c.append.ensures.change)
+    subst (λ n. Along (OnlyAt n) (g.V.Volume.disk c.args.volume.now) (g.V.Volume.disk c.append.new.self)) name
+    (appended_only c.as_str.result.now c.args.bytes.now c.append.ensures.change)
 
 pub returns-in_ok-append-in-Some-clause-below : goal.returns-in_ok-append-in-Some-clause-below
 returns-in_ok-append-in-Some-clause-below g c =
-    below_at c.args.self.now.folder (staged_name c.args.self.now c.args.target.now) (front_more c.args.self.now.folder c.args.target.now) (returns-in_ok-append-in-Some-clause-only g c)
+    below_at c.args.self.now.folder (staged_name c.args.self.now c.args.target.now)
+    (front_more c.args.self.now.folder c.args.target.now) (returns-in_ok-append-in-Some-clause-only g c)
 
 pub returns-in_ok-append-in-Some-clause-begun : goal.returns-in_ok-append-in-Some-clause-begun
 returns-in_ok-append-in-Some-clause-begun g c =
@@ -77,7 +86,8 @@ returns-in_ok-append-in-Some-clause-begun g c =
       begun_is = ap (λ v. v.begun) c.self.view_is;
       kept = c.self.invariant;
     } in
-    let found : Some c.in-Some.name.now ≡ at_name c.self.inside.files.items c.args.target.now = rw c.as_slice.ensures.value at c.in-Some.ensures in
+    let found : Some c.in-Some.name.now ≡ at_name c.self.inside.files.items c.args.target.now =
+    rw c.as_slice.ensures.value at c.in-Some.ensures in
     begun_again _ _ _ c.args.target.now o (found_begun _ _ _ c.args.target.now _ o found)
 
 pub returns-in_ok-append-in-Some-clause-disk : goal.returns-in_ok-append-in-Some-clause-disk
@@ -89,14 +99,17 @@ returns-in_ok-append-in-Some-clause-disk g c =
       begun_is = ap (λ v. v.begun) c.self.view_is;
       kept = c.self.invariant;
     } in
-    let found : Some c.in-Some.name.now ≡ at_name c.self.inside.files.items target = rw c.as_slice.ensures.value at c.in-Some.ensures in
+    let found : Some c.in-Some.name.now ≡ at_name c.self.inside.files.items target =
+    rw c.as_slice.ensures.value at c.in-Some.ensures in
     let name : c.as_str.result.now ≡ staged_name a target = c.as_str.ensures ∙ found_name _ _ _ target _ o found in
-    c.in_ok-append-in-Some.ensures.change.ok ∙ staged_begun a target c.as_str.result.now c.args.bytes.now _ (found_begun _ _ _ target _ o found) name
+    c.in_ok-append-in-Some.ensures.change.ok ∙ staged_begun a target c.as_str.result.now c.args.bytes.now _
+    (found_begun _ _ _ target _ o found) name
 
 pub returns-in_ok-append-in-Some-clause-holds : goal.returns-in_ok-append-in-Some-clause-holds
 returns-in_ok-append-in-Some-clause-holds g c =
     let a = c.args.self.now in
-    both_told (HoldsMore a c.args.target.now c.args.bytes.now) (after_staging a c.args.target.now c.args.bytes.now) (holds_more a c.args.target.now c.args.bytes.now) _ _
+    both_told (HoldsMore a c.args.target.now c.args.bytes.now) (after_staging a c.args.target.now c.args.bytes.now)
+    (holds_more a c.args.target.now c.args.bytes.now) _ _
     (returns-in_ok-append-in-Some-clause-disk g c)
 
 pub begin-requires-clause-new : goal.begin-requires-clause-new
@@ -106,26 +119,31 @@ begin-requires-clause-new g c =
       begun_is = ap (λ v. v.begun) c.self.view_is;
       kept = c.self.invariant;
     } in
-    let found : None ≡ at_name c.self.inside.files.items c.args.target.now = rw c.as_slice.ensures.value at c.in-None.ensures in
+    let found : None ≡ at_name c.self.inside.files.items c.args.target.now =
+    rw c.as_slice.ensures.value at c.in-None.ensures in
     not_begun _ _ _ c.args.target.now o found
 
 pub returns-in-None-clause-holds : goal.returns-in-None-clause-holds
 returns-in-None-clause-holds g c =
     let a = c.args.self.now in
     ok_then c.begin.result _ _
-    (both_told (HoldsMore a c.args.target.now c.args.bytes.now) (after_staging a c.args.target.now c.args.bytes.now) (holds_more a c.args.target.now c.args.bytes.now) _ _)
+    (both_told (HoldsMore a c.args.target.now c.args.bytes.now) (after_staging a c.args.target.now c.args.bytes.now)
+    (holds_more a c.args.target.now c.args.bytes.now) _ _)
     c.begin.ensures.disk
 
 pub returns-in-None-clause-below : goal.returns-in-None-clause-below
 returns-in-None-clause-below g c =
-    below_at c.args.self.now.folder (staged_name c.args.self.now c.args.target.now) (front_more c.args.self.now.folder c.args.target.now) c.begin.ensures.only
+    below_at c.args.self.now.folder (staged_name c.args.self.now c.args.target.now)
+    (front_more c.args.self.now.folder c.args.target.now) c.begin.ensures.only
 
 pub returns-in_ok-append-in-Some-clause-there : goal.returns-in_ok-append-in-Some-clause-there
 returns-in_ok-append-in-Some-clause-there g c =
-    there_told c.args.self.now c.args.self.now c.args.target.now c.args.bytes.now _ _ (returns-in_ok-append-in-Some-clause-begun g c) (returns-in_ok-append-in-Some-clause-disk g c) c.requires.there
+    there_told c.args.self.now c.args.self.now c.args.target.now c.args.bytes.now _ _
+    (returns-in_ok-append-in-Some-clause-begun g c) (returns-in_ok-append-in-Some-clause-disk g c) c.requires.there
 
 pub returns-in-None-clause-there : goal.returns-in-None-clause-there
 returns-in-None-clause-there g c =
     ok_both c.begin.result _ _ _
-    (λ begun changed. there_told c.args.self.now c.begin.new.self c.args.target.now c.args.bytes.now _ _ begun changed c.requires.there)
+    (λ begun changed. there_told c.args.self.now c.begin.new.self c.args.target.now c.args.bytes.now _ _ begun changed
+    c.requires.there)
     c.begin.ensures.begun c.begin.ensures.disk

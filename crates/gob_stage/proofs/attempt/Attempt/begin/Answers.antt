@@ -16,4 +16,5 @@ returns-clause-begun g c = view_added _ _ _ _ _ c.args.target.now _ c.self.view_
 
 pub returns-clause-disk : goal.returns-clause-disk
 returns-clause-disk g c =
-    c.in_ok-make_file.ensures.disk ∙ staged_new c.args.self.now c.args.target.now c.as_str.result.now c.args.bytes.now _ c.requires.new (c.as_str.ensures ∙ c.in_ok-name.ensures.name)
+    c.in_ok-make_file.ensures.disk ∙ staged_new c.args.self.now c.args.target.now c.as_str.result.now c.args.bytes.now _
+    c.requires.new (c.as_str.ensures ∙ c.in_ok-name.ensures.name)

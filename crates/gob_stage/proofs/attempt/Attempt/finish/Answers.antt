@@ -57,10 +57,12 @@ returns-clause-disk g c =
       begun_is = ap (λ v. v.begun) c.self.view_is;
       kept = c.self.invariant;
     } in
-    c.in_ok-sync_files.ensures.disk ∙ lent_synced c.args.self _ c.self.inside.files.items c.as_slice.result.now _ o c.as_slice.ensures.value
+    c.in_ok-sync_files.ensures.disk ∙ lent_synced c.args.self _ c.self.inside.files.items c.as_slice.result.now _ o
+    c.as_slice.ensures.value
 
 pub returns-clause-holds : goal.returns-clause-holds
-returns-clause-holds g c = both_told (HoldsAll c.args.self) (after_finish c.args.self) (holds_all c.args.self) _ _ (returns-clause-disk g c)
+returns-clause-holds g c = both_told (HoldsAll c.args.self) (after_finish c.args.self) (holds_all c.args.self) _ _
+    (returns-clause-disk g c)
 
 pub returns-clause-files : goal.returns-clause-files
 returns-clause-files g c =
@@ -69,7 +71,8 @@ returns-clause-files g c =
       begun_is = ap (λ v. v.begun) c.self.view_is;
       kept = c.self.invariant;
     } in
-    c.in_ok-files.ensures ∙ lent_staged c.args.self c.as_str.result.now _ c.self.inside.files.items c.as_slice-2.result.now o c.as_slice-2.ensures.value (c.as_str.ensures ∙ ap (λ v. v.job) c.self.view_is)
+    c.in_ok-files.ensures ∙ lent_staged c.args.self c.as_str.result.now _ c.self.inside.files.items
+    c.as_slice-2.result.now o c.as_slice-2.ensures.value (c.as_str.ensures ∙ ap (λ v. v.job) c.self.view_is)
 
 pub returns-clause-order : goal.returns-clause-order
 returns-clause-order g c =
@@ -78,4 +81,5 @@ returns-clause-order g c =
       begun_is = ap (λ v. v.begun) c.self.view_is;
       kept = c.self.invariant;
     } in
-    subst (λ fs. IsInByteOrder (map (λ f. f.to) fs)) (sym (returns-clause-files g c)) (files_rising _ _ c.self.inside.files.items o)
+    subst (λ fs. IsInByteOrder (map (λ f. f.to) fs)) (sym (returns-clause-files g c))
+    (files_rising _ _ c.self.inside.files.items o)

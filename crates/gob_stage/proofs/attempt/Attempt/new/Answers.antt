@@ -8,4 +8,5 @@ pub invariant_of-result : goal.invariant_of-result
 invariant_of-result c =
     let none : c.new.result.items ≡ [] = search rules in
     kept_none c.in_ok-folder.folder c.new.result.items
-    (subst IsPathname (sym c.in_ok-folder.ensures) (folder_named c.args.job.now c.args.unit c.args.attempt c.ranges.unit.fits c.ranges.attempt.fits c.requires)) none
+    (subst IsPathname (sym c.in_ok-folder.ensures) (folder_named c.args.job.now c.args.unit c.args.attempt
+    c.ranges.unit.fits c.ranges.attempt.fits c.requires)) none

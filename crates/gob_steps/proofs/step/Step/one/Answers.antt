@@ -2,7 +2,8 @@ use Rattle.std.proofs.Common.{◌≡◌, true, false, length, ap, sym, ◌∙◌
 use Rattle.std.specs.List.{list_all}
 use Rattle.gob_plan.specs.Rows.{conforms}
 use Rattle.gob_steps.specs.Places.{are_apart, changes_one, is_below, makes_many, values_at}
-use Rattle.gob_steps.proofs.Making.{needs_own, keeps_some, can_pick, own_at, kept_made, rename_step, set_step, copy_step}
+use Rattle.gob_steps.proofs.Making.{needs_own, keeps_some, can_pick, own_at, kept_made, rename_step, set_step}
+use Rattle.gob_steps.proofs.Making.{copy_step}
 use Rattle.gob_steps.proofs.step.Step.one.Goals as goal
 
 pub picked-requires-clause-below : goal.picked-requires-clause-below
@@ -52,7 +53,8 @@ unfolding conforms
 returns-in_ok-picked-in-Keep-clause-ok c =
     let s = c.args.self.now in
     let row = c.args.row in
-    kept_made s.spec s.columns s.after s.kept.items row c.in_ok-picked-in-Keep.field-0 (ap keeps_some c.in-Keep.is) s.proper
+    kept_made s.spec s.columns s.after s.kept.items row c.in_ok-picked-in-Keep.field-0 (ap keeps_some c.in-Keep.is)
+    s.proper
     s.told s.keeps c.requires.conforms
     (c.in_ok-picked-in-Keep.ensures ∙ ap (λ ks. values_at ks row.values) c.deref.ensures.value)
 
@@ -76,7 +78,8 @@ pub returns-in_ok-with_copy-in-Copy-clause-ok : goal.returns-in_ok-with_copy-in-
 unfolding conforms
 returns-in_ok-with_copy-in-Copy-clause-ok c =
     let s = c.args.self.now in
-    copy_step s.spec _ _ s.columns s.after s.place c.args.row c.in_ok-with_copy-in-Copy.field-0 c.in-Copy.is s.told s.own
+    copy_step s.spec _ _ s.columns s.after s.place c.args.row c.in_ok-with_copy-in-Copy.field-0 c.in-Copy.is s.told
+    s.own
     c.requires.conforms c.in_ok-with_copy-in-Copy.ensures
 
 pub returns-in-Rename-clause-ok : goal.returns-in-Rename-clause-ok

@@ -4,4 +4,5 @@ use Rattle.gob_volume.proofs.Tables.{map-with}
 use Rattle.gob_volume.proofs.file_table.FileTable.put.Goals as goal
 
 pub returns-clause-ok : goal.returns-clause-ok
-returns-clause-ok c = ap at_name c.in_ok-set.ensures.ok ∙ map-with c.args.self.now.entries.items c.args.name.now c.args.stored
+returns-clause-ok c = ap at_name c.in_ok-set.ensures.ok ∙ map-with c.args.self.now.entries.items c.args.name.now
+    c.args.stored

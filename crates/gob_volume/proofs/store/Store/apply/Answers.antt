@@ -7,12 +7,18 @@ use Rattle.gob_volume.proofs.store.Store.apply.Goals as goal
 pub invariant_of-self-2 : goal.invariant_of-self-2
 invariant_of-self-2 c =
     let old = c.args.self.now in
-    let listed : c.list.new.calls.items ≡ old.calls.items ++ c.args.call ∷ [] = c.list.ensures ∙ ap (λ cs. cs ++ c.args.call ∷ []) c.make_room.ensures.calls in
-    record { replayed = rw listed (replayed-more (map_of old.table) (map_of c.apply.new.self) old.calls.items old.since c.args.call old.replayed c.in_ok-apply.ensures.ok) }
+    let listed : c.list.new.calls.items ≡ old.calls.items ++ c.args.call ∷ [] = c.list.ensures
+    ∙ ap (λ cs. cs ++ c.args.call ∷ []) c.make_room.ensures.calls in
+    record {
+      replayed = rw listed (replayed-more (map_of old.table) (map_of c.apply.new.self) old.calls.items old.since
+          c.args.call old.replayed c.in_ok-apply.ensures.ok);
+    }
 
 pub returns-clause-ok : goal.returns-clause-ok
 returns-clause-ok c =
     let old = c.args.self.now in
-    let listed : c.list.new.calls.items ≡ old.calls.items ++ c.args.call ∷ [] = c.list.ensures ∙ ap (λ cs. cs ++ c.args.call ∷ []) c.make_room.ensures.calls in
-    let trail = ap (λ cs. trail_of cs old.since) listed ∙ trail-more (map_of old.table) old.calls.items old.since c.args.call old.replayed in
+    let listed : c.list.new.calls.items ≡ old.calls.items ++ c.args.call ∷ [] = c.list.ensures
+    ∙ ap (λ cs. cs ++ c.args.call ∷ []) c.make_room.ensures.calls in
+    let trail = ap (λ cs. trail_of cs old.since) listed ∙ trail-more (map_of old.table) old.calls.items old.since
+    c.args.call old.replayed in
     λ i. record { files = c.in_ok-apply.ensures.ok i; trail = trail i }
