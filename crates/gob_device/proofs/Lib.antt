@@ -1,4 +1,5 @@
 pub mod Causes
+pub mod Examples
 pub mod Looks
 pub mod Names
 pub mod Trail

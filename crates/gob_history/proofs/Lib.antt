@@ -1,4 +1,5 @@
 pub mod Kept
+pub mod Told
 pub mod Stands
 pub mod Steadied
 pub mod Bytes

@@ -1,15 +1,14 @@
 -- What one run leaves, told over a source: its state, its files, and the maps on its way.
-use Rattle.std.specs.Prelude.{◌≡◌, ◌⊎◌, ◌↔◌, ℕ, Bool, true, false, List, [], ◌∷◌, map, length, option_map}
+use Rattle.std.specs.Prelude.{◌≡◌, ◌⊎◌, ◌↔◌, ℕ, true, false, List, [], ◌∷◌, map, length, option_map}
 use Rattle.std.specs.declared.option.Option.{Option}
 use Rattle.std.specs.declared.option.Option.TheVariants.{None, Some}
 use Rattle.std.specs.List.{flat_map, zip}
 use Rattle.gob_bytes.specs.Paths.{is_published, keeps_state}
 use Rattle.gob_device.specs.Disk.{Files, File, clean, contents_at, Rises}
 use Rattle.gob_device.specs.Supply.{Held}
-use Rattle.gob_plan.specs.declared.units.Cause.TheVariants.{Fault}
 use Rattle.gob_plan.specs.declared.units.Unit.{Unit as WorkUnit}
 use Rattle.gob_meaning.specs.Job.{Job}
-use Rattle.gob_meaning.specs.Results.{Verdict, good, failed}
+use Rattle.gob_meaning.specs.Results.{Verdict}
 use Rattle.gob_ledger.specs.State.{State, empty_state}
 use Rattle.gob_ledger.specs.Units.{units_of}
 use Rattle.gob_ledger.specs.Next.{Judged, allowed_units, next_state}
@@ -151,9 +150,3 @@ TrailOfSettling job m added = (archive : Held) (o : Option State) → AllRecover
 abbrev pub Readable : List ℕ → Held → Option State → Files → Type 0
 Readable job archive o m = (name : List ℕ) (f : File) → is_published job name ≡ true → m name ≡ Some f
     → (bytes : List ℕ) × (f ≡ clean bytes) × (s : State) × (o ≡ Some s) × IsExpected job s archive name bytes
-
--- a failure of the source ended the unit
-abbrev pub is_fault : Verdict → Bool
-is_fault (good counts warnings) = false
-is_fault (failed Fault) = true
-is_fault (failed other) = false

@@ -1,4 +1,5 @@
 pub mod Again
+pub mod Fitting
 pub mod Images
 pub mod Spelled
 pub mod Settled
