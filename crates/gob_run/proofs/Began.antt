@@ -84,7 +84,8 @@ settled_to job l d c b =
     record { added = b.first; trail = b.trail; stands = b.stands; alike = b.alike; settles = b.settles }
 
 pub only_settled : (job : List ℕ) (l : Loaded) (d c : Disk) → Began job l d c → OnlySettled job d c
-only_settled job l d c b = record { added = b.first; trail = b.trail; stands = b.stands; alike = b.alike }
+only_settled job l d c b =
+    record { added = b.first; trail = b.trail; stands = b.stands; alike = b.alike; names = b.names }
 
 -- no other state is found
 pub found_is_one : (job : List ℕ) (l : Loaded) (d c : Disk) (o : Option State) → Began job l d c
