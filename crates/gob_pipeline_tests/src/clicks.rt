@@ -1,9 +1,7 @@
 //! The clicks of a web tier: a unit of forty lines.
 
-use crate::bench::Bench;
-use crate::cuts::{Unit, is_so_in_each_cut};
+use crate::cuts::{Unit, long_is_so};
 use std::alloc::{AllocError, Global};
-use std::process::Abort;
 use std::test::Fail;
 
 const CLICKS: &str =
@@ -99,14 +97,9 @@ fn clicks(alloc: Global) -> Result<Unit, AllocError> {
     })
 }
 
-fn are_sent(rt: &impl Abort, bench: &mut Bench) -> Result<(), Fail> {
-    let unit = clicks(bench.alloc())?;
-    assert!(rt; unit.bytes.len() == 2360);
-    is_so_in_each_cut(rt, bench, &unit)
-}
-
 #[test]
 fn clicks_go_to_two_branches(rt: HostRuntime) -> Result<(), Fail> {
-    let mut bench = Bench::new(rt.alloc(), CLICKS)?;
-    are_sent(&rt, &mut bench)
+    let unit = clicks(rt.alloc())?;
+    assert!(&rt; unit.bytes.len() == 2360);
+    long_is_so(&rt, rt.alloc(), CLICKS, &unit)
 }

@@ -17,16 +17,19 @@ enum Cut {
     EmptyPieces,
     Lines,
     CarriageReturns,
+    /// Each 997 bytes long.
+    Long,
     /// Behind the byte at this place.
     Behind(usize),
 }
 
-const CUTS: [Cut; 5] = [
+const CUTS: [Cut; 6] = [
     Cut::Nowhere,
     Cut::Bytes,
     Cut::EmptyPieces,
     Cut::Lines,
     Cut::CarriageReturns,
+    Cut::Long,
 ];
 
 impl Cut {
@@ -36,6 +39,7 @@ impl Cut {
             Cut::Bytes | Cut::EmptyPieces => true,
             Cut::Lines => byte == b'\n',
             Cut::CarriageReturns => byte == b'\r',
+            Cut::Long => at % 997 == 996,
             Cut::Behind(place) => at == place,
         }
     }
@@ -97,12 +101,8 @@ fn is_so(rt: &impl Abort, bench: &mut Bench, unit: &Unit, cut: Cut) -> Result<()
     Ok(())
 }
 
-/// The unit comes to what it says, whole and in pieces of each kind.
-pub(crate) fn is_so_in_each_cut(
-    rt: &impl Abort,
-    bench: &mut Bench,
-    unit: &Unit,
-) -> Result<(), Fail> {
+// The unit comes to what it says, whole and in pieces of each kind.
+fn is_so_in_each_cut(rt: &impl Abort, bench: &mut Bench, unit: &Unit) -> Result<(), Fail> {
     for cut in CUTS {
         is_so(rt, bench, unit, cut)?;
     }
@@ -118,12 +118,34 @@ fn is_always_so(rt: &impl Abort, bench: &mut Bench, unit: &Unit) -> Result<(), F
     Ok(())
 }
 
-fn each_on(rt: &impl Abort, bench: &mut Bench, lo: u64, cases: &[Case]) -> Result<(), Fail> {
+fn each_on(
+    rt: &impl Abort,
+    bench: &mut Bench,
+    lo: u64,
+    cases: &[Case],
+    unit: Option<&Unit>,
+) -> Result<(), Fail> {
     for case in cases {
         let unit = unit_of(bench.alloc(), lo, case)?;
         is_always_so(rt, bench, &unit)?;
     }
-    Ok(())
+    match unit {
+        Some(unit) => is_so_in_each_cut(rt, bench, unit),
+        None => Ok(()),
+    }
+}
+
+// The one function that owns a bench.
+fn on_a_bench(
+    rt: &impl Abort,
+    alloc: Global,
+    job: &str,
+    lo: u64,
+    cases: &[Case],
+    unit: Option<&Unit>,
+) -> Result<(), Fail> {
+    let mut bench = Bench::new(alloc, job)?;
+    each_on(rt, &mut bench, lo, cases, unit)
 }
 
 /// Each unit of the job that begins here comes to what its case says, whatever pieces it is cut into.
@@ -134,6 +156,15 @@ pub(crate) fn each_is_so(
     lo: u64,
     cases: &[Case],
 ) -> Result<(), Fail> {
-    let mut bench = Bench::new(alloc, job)?;
-    each_on(rt, &mut bench, lo, cases)
+    on_a_bench(rt, alloc, job, lo, cases, None)
+}
+
+/// A long unit of the job comes to what it says, whole and in pieces of each kind.
+pub(crate) fn long_is_so(
+    rt: &impl Abort,
+    alloc: Global,
+    job: &str,
+    unit: &Unit,
+) -> Result<(), Fail> {
+    on_a_bench(rt, alloc, job, unit.lo, &[], Some(unit))
 }

@@ -19,4 +19,6 @@ mod long;
 #[cfg(test)]
 mod records;
 #[cfg(test)]
+mod steps;
+#[cfg(test)]
 mod worked;

@@ -1,9 +1,7 @@
 //! A line that is longer than its pieces.
 
-use crate::bench::Bench;
-use crate::cuts::same_bytes;
+use crate::cuts::{Unit, long_is_so};
 use std::alloc::{AllocError, Global};
-use std::process::Abort;
 use std::test::Fail;
 
 /// A long line behind this front, and behind that this back.
@@ -16,19 +14,20 @@ fn around_a_line(alloc: Global, front: &str, back: &str) -> Result<Vec<u8>, Allo
     Ok(bytes)
 }
 
-fn is_one_line(rt: &impl Abort, bench: &mut Bench) -> Result<(), Fail> {
-    let bytes = around_a_line(bench.alloc(), "a\n", "\r\nb\n")?;
-    for piece in bytes.chunks(997) {
-        bench.feed(rt, piece)?;
-    }
-    let wanted = around_a_line(bench.alloc(), "out0:a\n", "\nb\n")?;
-    same_bytes(rt, bench.sent()?.as_slice(), wanted.as_slice());
-    same_bytes(rt, bench.end()?.as_slice(), b"3 0 3 0, 3 0 0");
-    Ok(())
+fn long_unit(alloc: Global) -> Result<Unit, AllocError> {
+    let bytes = around_a_line(alloc, "a\n", "\r\nb\n")?;
+    let sent = around_a_line(alloc, "out0:a\n", "\nb\n")?;
+    Ok(Unit {
+        lo: 0,
+        bytes,
+        sent,
+        end: "3 0 3 0, 3 0 0",
+    })
 }
 
 #[test]
 fn a_line_over_many_pieces_is_one_line(rt: HostRuntime) -> Result<(), Fail> {
-    let mut bench = Bench::new(rt.alloc(), "source.format=lines\nwriter.format=lines\n")?;
-    is_one_line(&rt, &mut bench)
+    let unit = long_unit(rt.alloc())?;
+    let job = "source.format=lines\nwriter.format=lines\n";
+    long_is_so(&rt, rt.alloc(), job, &unit)
 }
