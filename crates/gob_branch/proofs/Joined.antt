@@ -10,7 +10,7 @@ use Rattle.gob_convert.specs.Made.{Made, concatenation, made_each, all_made}
 use Rattle.gob_convert.proofs.MadeLemmas.{joined-assoc}
 
 -- the list that goes on at a place
-goes_on : {A : Type 0} (xs : List A) (i : ℕ) (x : A) → i < length xs → x ≡ get_or xs i x
+pub goes_on : {A : Type 0} (xs : List A) (i : ℕ) (x : A) → i < length xs → x ≡ get_or xs i x
     → drop i xs ≡ x ∷ drop (i + 1) xs
 goes_on xs i x lt is = rw add-one (drop-cons xs i x lt ∙ ap (λ y. y ∷ drop (suc i) xs) (sym is))
 

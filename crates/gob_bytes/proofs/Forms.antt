@@ -20,7 +20,7 @@ use Rattle.gob_bytes.specs.Digits.{padded, offset, OffsetsHaveOneForm}
 use Rattle.gob_bytes.specs.Numbers.{is_digits, read_up_to, has_spare_zero, number_read, NumbersHaveOneForm}
 use Rattle.gob_bytes.specs.Escapes.{is_plain, escaped, AreBytes, EscapesTellNamesApart}
 
-own : IsNumeralModel (λ ds. all_ascii_digits ds ≡ true) (digits_value 10)
+pub own : IsNumeralModel (λ ds. all_ascii_digits ds ≡ true) (digits_value 10)
 own = numerals_by_value _ tells_all_ascii_digits
 
 -- ---- numbers
@@ -101,7 +101,7 @@ escapes_apart x y small small' same = sym (unescaped x small) ∙ ap percent_dec
 
 -- ---- offsets
 
-length-padded : (k n : ℕ) → length (padded k n) ≡ k
+pub length-padded : (k n : ℕ) → length (padded k n) ≡ k
 unfolding padded
 length-padded zero n = refl
 length-padded (suc k) n = let shorter = length-padded k (n / 10) in simp length-append (omega arith)

@@ -40,14 +40,14 @@ greater_less x y e = nat_list_cmp_total.antisymm y x ∙ ap ordering_reverse e
 pub less_then : (x y z : List ℕ) → name_cmp x y ≡ Less → name_cmp y z ≡ Less → name_cmp x z ≡ Less
 less_then x y z e f = nat_list_cmp_total.trans x y z e f
 
-cond_twice : {A : Type 0} (b c : Bool) (x y z : A) → (b ≡ true → c ≡ true → ⊥) →
+pub cond_twice : {A : Type 0} (b c : Bool) (x y z : A) → (b ≡ true → c ≡ true → ⊥) →
     cond b x (cond c y z) ≡ cond c y (cond b x z)
 cond_twice true true x y z apart = absurd (apart refl refl)
 cond_twice true false x y z apart = refl
 cond_twice false true x y z apart = refl
 cond_twice false false x y z apart = refl
 
-cond_shadowed : {A : Type 0} (b : Bool) (x y z : A) → cond b x z ≡ cond b x (cond b y z)
+pub cond_shadowed : {A : Type 0} (b : Bool) (x y z : A) → cond b x z ≡ cond b x (cond b y z)
 cond_shadowed true x y z = refl
 cond_shadowed false x y z = refl
 

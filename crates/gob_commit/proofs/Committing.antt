@@ -26,7 +26,7 @@ use Rattle.gob_history.specs.Laws.{CommittedGroup, StagedFor, StagedOver, change
 use Rattle.gob_history.specs.Laws.{removes_of}
 use Rattle.gob_history.specs.Laws.{staged_state}
 use Rattle.gob_history.specs.Runs.{done_in, kept_where, next_of_group, stored_where}
-use Rattle.gob_history.proofs.Keeps.{committing}
+use Rattle.gob_history.proofs.Keeps.{committing, kept_is}
 use Rattle.gob_segments.specs.declared.change.Loaded.{Loaded}
 use Rattle.gob_state.specs.Committed.{judged_by}
 use Rattle.gob_commit.specs.declared.rules.CommitRules.{CommitRules}
@@ -160,10 +160,6 @@ group_rises rules l units results t n apart a =
 pub stored_some : (o : Option State) (next : State) (js : List Judged) → js ≢ [] → stored_where o next js ≡ Some next
 stored_some o next [] some = absurd (some refl)
 stored_some o next (d ∷ ds) some = refl
-
-kept_is : (k : Option Kept) (next : Kept) (js : List Judged) → js ≢ [] → kept_where k next js ≡ Some next
-kept_is k next [] some = absurd (some refl)
-kept_is k next (d ∷ ds) some = refl
 
 ended_by : (j : Job) (held : Held) (rules : CommitRules) (l : Loaded) (units : List WorkUnit)
     (results : List UnitResult) (t : State) (changes : ℕ) (settled m : Files) (added : List Files) → HasRules j rules

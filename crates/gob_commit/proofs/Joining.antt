@@ -63,7 +63,7 @@ unit_of units results r counted h =
     (subst (λ (rs : List UnitResult). Contains rs r) (sym (zip_seconds units results counted)) h) in
     (found.0.0, subst (λ (q : UnitResult). Contains (zip units results) (found.0.0, q)) found.2 found.1)
 
-result_of : (units : List WorkUnit) (results : List UnitResult) (w : Made) → length results ≡ length units
+pub result_of : (units : List WorkUnit) (results : List UnitResult) (w : Made) → length results ≡ length units
     → Contains (zip units results) w → Contains results w.1
 result_of units results w counted h =
     subst (λ (rs : List UnitResult). Contains rs w.1) (zip_seconds units results counted)

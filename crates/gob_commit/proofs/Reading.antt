@@ -20,7 +20,7 @@ use Rattle.gob_commit.specs.Staged.{Pair}
 
 -- ---- published names
 
-sequence_unpublished : (job : List ℕ) → is_published job (sequence_name job) ≡ false
+pub sequence_unpublished : (job : List ℕ) → is_published job (sequence_name job) ≡ false
 sequence_unpublished job =
     ap (λ v. cond v true (begins_with (under job (codes "err/")) (sequence_name job)))
     (under_front job (codes "out/") (codes "seq"))

@@ -33,7 +33,7 @@ use Rattle.gob_commit.specs.Staged.{CanCommit, Made, NamesFit, Pair, all_pairs, 
 use Rattle.gob_commit.proofs.Differing.{clash, clash_turned, distinct_some, each_all, given_apart}
 use Rattle.gob_commit.proofs.Differing.{list_all_at}
 use Rattle.gob_commit.proofs.Differing.{list_all_of, names_differ, pairs_differ, some_given}
-use Rattle.gob_commit.proofs.Joining.{judged_all, zip_firsts, zip_seconds}
+use Rattle.gob_commit.proofs.Joining.{judged_all, zip_firsts, zip_seconds, result_of}
 use Rattle.gob_commit.proofs.Placing.{picked_are}
 use Rattle.gob_ledger.proofs.Changes.{all_member}
 
@@ -190,12 +190,6 @@ unit_in units results w counted h =
     subst (λ (us : List WorkUnit). Contains us w.0) (zip_firsts units results counted)
     (map_in (λ (v : Made). v.0) (zip units results) w h)
 
-result_in : (units : List WorkUnit) (results : List UnitResult) (w : Made) → length results ≡ length units
-    → Contains (zip units results) w → Contains results w.1
-result_in units results w counted h =
-    subst (λ (rs : List UnitResult). Contains rs w.1) (zip_seconds units results counted)
-    (map_in (λ (v : Made). v.1) (zip units results) w h)
-
 abbrev made_pairs : Made → List Pair
 made_pairs w = pairs_in w.1
 
@@ -245,7 +239,7 @@ pub pair_in : (units : List WorkUnit) (results : List UnitResult) (g : List Made
     → Contains (group_pairs g) p → Contains (all_pairs results) p
 pair_in units results g p counted within h =
     let found = in_flat_map made_pairs g p (subst (λ (x : List Pair). Contains x p) (pairs_of_made g) h) in
-    flat_map_in pairs_in results found.0.1 p (result_in units results found.0 counted (within found.0 found.1)) found.2
+    flat_map_in pairs_in results found.0.1 p (result_of units results found.0 counted (within found.0 found.1)) found.2
 
 -- files of different groups have different names
 pub sources_apart : (units : List WorkUnit) (results : List UnitResult) (g h : List Made) (p q : Pair) (job : List ℕ)
@@ -305,7 +299,7 @@ group_kept units results g counted within kept = record {
   proper = λ u h. let found = in_map (λ (w : Made). w.0) g u h in
       kept.proper u (subst (Contains units) found.2 (unit_in units results found.0 counted (within found.0 found.1)));
   counted = λ r c h e. let found = in_map (λ (w : Made). w.1) g r h in
-      kept.counted r c (subst (Contains results) found.2 (result_in units results found.0 counted (within found.0
+      kept.counted r c (subst (Contains results) found.2 (result_of units results found.0 counted (within found.0
       found.1))) e;
 }
 

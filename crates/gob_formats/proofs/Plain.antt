@@ -79,7 +79,7 @@ no_bom b [] e = refl
 no_bom b (c ∷ []) e = refl
 no_bom b (c ∷ d ∷ rest) e = rw e refl
 
-concatenation-nil : {A : Type 0} (m : Made A) → concatenation m (Some []) ≡ m
+pub concatenation-nil : {A : Type 0} (m : Made A) → concatenation m (Some []) ≡ m
 concatenation-nil None = refl
 concatenation-nil (Some xs) = ap (λ l. Some l) (append-nil xs)
 

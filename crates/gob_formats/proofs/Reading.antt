@@ -14,6 +14,7 @@ use Rattle.gob_meaning.specs.Formats.{row_of, value_before, field_values}
 use Rattle.gob_formats.specs.Fields.{field_read}
 use Rattle.gob_formats.specs.Splits.{comma_fields, step, records_on}
 use Rattle.gob_formats.specs.Rows.{rows_on, rows_after}
+use Rattle.gob_formats.proofs.Plain.{concatenation-nil}
 
 -- ---- what is made of parts
 
@@ -23,10 +24,6 @@ concatenation_assoc None b c = refl
 concatenation_assoc (Some xs) None c = refl
 concatenation_assoc (Some xs) (Some ys) None = refl
 concatenation_assoc (Some xs) (Some ys) (Some zs) = ap (λ l. Some l) (append_assoc xs ys zs)
-
-pub concatenation_nil : {A : Type 0} (m : Made A) → concatenation m (Some []) ≡ m
-concatenation_nil None = refl
-concatenation_nil (Some xs) = ap (λ l. Some l) (append-nil xs)
 
 -- a row more
 pub row_added : (rows : List Row) (o : Option (List Value)) (row : Row) → o ≡ Some row.values
@@ -114,7 +111,7 @@ pub rows_at_end : (columns : List Column) (s : State) (fields : List (List ℕ))
     → rows_on columns s fields field [] ≡ row_of (field_values columns (fields ++ field ∷ []))
 unfolding records_on
 rows_at_end columns s fields field ends =
-    rw ends (concatenation_nil (row_of (field_values columns (fields ++ field ∷ []))))
+    rw ends (concatenation-nil (row_of (field_values columns (fields ++ field ∷ []))))
 
 pub no_rows_at_end : (columns : List Column) (s : State) (fields : List (List ℕ)) (field : List ℕ)
     → csv.ends_at_end s ≡ false → rows_on columns s fields field [] ≡ Some []

@@ -90,7 +90,7 @@ each_to : (P Q : Files → Type 0) → ((k : Files) → P k → Q k) → (ms : L
 each_to P Q f [] each = tt
 each_to P Q f (m ∷ ms) each = (f m each.0, each_to P Q f ms each.1)
 
-each_append : (P : Files → Type 0) (ms ns : List Files) → EachOf P ms → EachOf P ns → EachOf P (ms ++ ns)
+pub each_append : (P : Files → Type 0) (ms ns : List Files) → EachOf P ms → EachOf P ns → EachOf P (ms ++ ns)
 each_append P [] ns a b = b
 each_append P (m ∷ ms) ns a b = (a.0, each_append P ms ns a.1 b)
 

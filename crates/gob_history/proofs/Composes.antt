@@ -16,7 +16,7 @@ use Rattle.gob_history.specs.Laws.{GroupsLeaveOneMore, GroupsStayDurable, RunGoe
 use Rattle.gob_history.proofs.Steadied.{steadied, quiet_sequence}
 use Rattle.gob_history.proofs.Rising.{rises_stand, rises_more}
 
-after_more : (job : Job) (before rest : List (List Judged)) (o : Option State)
+pub after_more : (job : Job) (before rest : List (List Judged)) (o : Option State)
     → after_groups job o (before ++ rest) ≡ after_groups job (after_groups job o before) rest
 after_more job [] rest o = refl
 after_more job (g ∷ gs) rest o = after_more job gs rest (after_group job o g)

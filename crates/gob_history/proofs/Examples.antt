@@ -60,7 +60,7 @@ the_marks = record { next = 4; finished = done 0 4 ∷ []; owed = [] }
 abbrev the_file : List ℕ
 the_file = codes "j1/out/0/a.log@00000000000000000000-00000000000000000004.txt"
 
-cond_some : {A : Type 0} (b : Bool) (x m : A) → cond b (Some x) None ≡ Some m → (b ≡ true) × (x ≡ m)
+pub cond_some : {A : Type 0} (b : Bool) (x m : A) → cond b (Some x) None ≡ Some m → (b ≡ true) × (x ≡ m)
 cond_some true x m e = (refl, cc)
 cond_some false x m e = absurd (let no : None ≡ Some m = e in cc)
 
@@ -370,7 +370,7 @@ run archive at = standing (codes "j1") archive (Some plain_state) after_plain af
     })
     (settles_itself (codes "j1") after_plain refl unstaged)
 
-state_left : state_after job two_lines [] None ≡ Some plain_state
+pub state_left : state_after job two_lines [] None ≡ Some plain_state
 unfolding groups_of digits escaped is_utf8 chars lib.Utf8.encode lines_from bytes_from test_holds unit_fold counts_of
     stop_of picks place_of line_rows record_of made_in_branch line_made ruling warnings_of verdict_of sum_of
     units_of_parts next_state own_pulls turns_of verdicts_of

@@ -12,6 +12,7 @@ use Rattle.gob_meaning.specs.Names.{target_name}
 use Rattle.gob_plan.specs.declared.plan.Plan.{Plan}
 use Rattle.gob_ledger.specs.Next.{Judged}
 use Rattle.gob_ledger.specs.Expected.{IsPublished}
+use Rattle.gob_ledger.proofs.DeltaNames.{state_not_below}
 
 itself : (b : ℕ) → nat_eq b b ≡ true
 itself b = grind (arith, nat_tests)
@@ -67,9 +68,6 @@ state_or_change job name e = cases (bytes_eq name (state_name job)) refl e
     cases true is e = inl (same_name name (state_name job) is)
     cases false is e = inr e
 
-pub change_not_state : (job : List ℕ) → begins_with (delta_folder job) (state_name job) ≡ false
-change_not_state job = under_front job (codes "delta/") (codes "state")
-
 pub kept_unstaged : (job name : List ℕ) → keeps_state job name ≡ true → begins_with (staging job) name ≡ false
 kept_unstaged job name e = never (begins_with (staging job) name) (λ s. ⊎_elim
     (λ is. let no : true ≡ false = sym s ∙ (ap (begins_with (staging job)) is
@@ -93,7 +91,7 @@ published_not_kept job name e k = ⊎_elim
     refl p d) (state_or_change job name k))
     (out_or_err job name e)
 
-made_in : (job : List ℕ) (plan : Plan) (part : List ℕ) (lo hi : ℕ) (t : Target)
+pub made_in : (job : List ℕ) (plan : Plan) (part : List ℕ) (lo hi : ℕ) (t : Target)
     → is_published job (under job (target_name plan part lo hi t)) ≡ true
 unfolding target_name
 made_in job plan part lo hi (out b place) = ap (λ v. cond v true

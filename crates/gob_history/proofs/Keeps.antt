@@ -132,7 +132,7 @@ keeps_next job held done before m pairs k t keeps own follows g =
           (kept_at job held done before m pairs a c.target c.text c.removes g name kept);
     })
 
-kept_is : (k : Option Kept) (next : Kept) (js : List Judged) → js ≢ [] → kept_where k next js ≡ Some next
+pub kept_is : (k : Option Kept) (next : Kept) (js : List Judged) → js ≢ [] → kept_where k next js ≡ Some next
 kept_is k next [] some = absurd (some refl)
 kept_is k next (d ∷ ds) some = refl
 

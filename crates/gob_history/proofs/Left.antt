@@ -37,7 +37,7 @@ use Rattle.gob_ledger.proofs.Changes.{units_in, units_of_zip, adds-pipelines, fi
 use Rattle.gob_ledger.proofs.Changes.{next_rising}
 use Rattle.gob_ledger.proofs.Tiling.{tiles}
 use Rattle.gob_ledger.proofs.Expecting.{HasDone, done_by, done_has, next_done, expects}
-use Rattle.gob_ledger.proofs.Cutting.{units_fit, units_lie, fresh_listed, follow_above}
+use Rattle.gob_ledger.proofs.Cutting.{units_fit, units_lie, fresh_listed, follow_above, next_at}
 use Rattle.gob_ledger.proofs.Within.{stays_within}
 use Rattle.gob_ledger.proofs.Sums.{totals_stay}
 use Rattle.gob_history.specs.Sound.{Stores, PublishesExactly, SoundIn, IsDurable}
@@ -111,7 +111,7 @@ base_of job archive settled (Some s) tells stores sound = record {
 
 -- ---- names
 
-cancel_under : (job x y : List ℕ) → under job x ≡ under job y → x ≡ y
+pub cancel_under : (job x y : List ℕ) → under job x ≡ under job y → x ≡ y
 cancel_under [] x y e = cc
 cancel_under (b ∷ job) x y e = cancel_under job x y (let tail : under job x ≡ under job y = cc in tail)
 
@@ -123,9 +123,6 @@ done_range s tiled parts part d h =
     let b = done_below h.0 (tiled.tiled part h.0 h.1) d.span (map_in (λ (x : Done). x.span) h.0.finished d h.2) in
     let small = p.small in
     (text_bytes part p.text, omega (arith, b, small), omega (arith, b, small))
-
-next_at : (s : State) (part : List ℕ) (m : Marks) → marks_at s part ≡ Some m → next_of s.parts part ≡ m.next
-next_at s part m e = ap (λ o. unwrap_or (option_map (λ (x : Marks). x.next) o) 0) e
 
 -- a unit's range isn't done yet
 not_done : (s : State) (units : List WorkUnit) → TiledState s → UnitsFit s.parts units → (u : WorkUnit)

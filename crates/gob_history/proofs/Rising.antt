@@ -5,6 +5,7 @@ use Rattle.gob_recovery.specs.Settle.{SettlesAs}
 use Rattle.gob_history.specs.Sound.{AllRecoverTo}
 use Rattle.gob_history.specs.Laws.{RisingMapsRecover}
 use Rattle.gob_history.proofs.Stands.{standing}
+use Rattle.gob_history.proofs.Along.{each_append}
 
 each_weaker : (P Q : Files → Type 0) → ((m : Files) → P m → Q m) → (ms : List Files) → EachOf P ms → EachOf Q ms
 each_weaker P Q f [] each = tt
@@ -31,10 +32,6 @@ rises_more P [] [] ms r = r
 rises_more P [] (y ∷ ys) ms r = ([], ms, refl, tt, rises_more P [] ys ms r)
 rises_more P (x ∷ xs) ys ms r = (r.0, r.1, r.2, r.3, rises_more P xs ys r.1 r.4)
 
-append_nil_each : (P : Files → Type 0) (ms ns : List Files) → EachOf P ms → EachOf P ns → EachOf P (ms ++ ns)
-append_nil_each P [] ns a b = b
-append_nil_each P (m ∷ ms) ns a b = (a.0, append_nil_each P ms ns a.1 b)
-
 -- maps that rise up to a member, and then others that rise from it, rise along both
 pub rises_on : {X : Type 0} (P : X → Files → Type 0) (xs : List X) (x : X) (ys : List X) (ms ns : List Files)
     → Rises P (xs ++ x ∷ []) ms → Rises P (x ∷ ys) ns → Rises P (xs ++ x ∷ ys) (ms ++ ns)
@@ -43,7 +40,7 @@ rises_on P [] x ys ms ns a b = (
   r ++ b.0,
   b.1,
   ap (λ z. z ++ ns) whole ∙ (ap (λ z. r ++ z) b.2 ∙ sym (append_assoc r b.0 b.1)),
-  append_nil_each (P x) r b.0 a.3 b.3,
+  each_append (P x) r b.0 a.3 b.3,
   b.4,
 )
   where

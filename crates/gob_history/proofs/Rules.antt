@@ -12,6 +12,7 @@ use Rattle.gob_ledger.specs.Expected.{IsMade}
 use Rattle.gob_jobs.specs.Plans.{plan_of}
 use Rattle.gob_jobs.proofs.Tells.{plans_right}
 use Rattle.gob_meaning.specs.Plans.{without_rules}
+use Rattle.gob_meaning.proofs.Fits.{bare_names}
 
 pub same_fold : (plan : Plan) (lo : ℕ) (bytes : List ℕ) → unit_fold (without_rules plan) lo bytes ≡ unit_fold plan lo
     bytes
@@ -22,20 +23,13 @@ pub same_counts : (plan : Plan) (fold : List Folded) → counts_of (without_rule
 unfolding counts_of
 same_counts plan fold = refl
 
-same_called : (plan : Plan) (part : List ℕ) (lo hi : ℕ) (t : Target)
-    → target_name (without_rules plan) part lo hi t ≡ target_name plan part lo hi t
-unfolding target_name
-same_called plan part lo hi (out b place) = refl
-same_called plan part lo hi (err b place) = refl
-same_called plan part lo hi bad = refl
-
 pub made_with : (plan : Plan) (part : List ℕ) (s : Span) (bytes path content : List ℕ)
     → IsMade plan part s bytes path content → IsMade (without_rules plan) part s bytes path content
 made_with plan part s bytes path content m = record {
   target = m.target;
   sends = ap (λ f. sent_to m.target (deliveries_of f)) (same_fold plan s.lo bytes) ∙ m.sends;
   some = m.some;
-  called = same_called plan part s.lo s.hi m.target ∙ m.called;
+  called = bare_names plan part s.lo s.hi m.target ∙ m.called;
 }
 
 pub made_without : (plan : Plan) (part : List ℕ) (s : Span) (bytes path content : List ℕ)
@@ -44,7 +38,7 @@ made_without plan part s bytes path content m = record {
   target = m.target;
   sends = ap (λ f. sent_to m.target (deliveries_of f)) (sym (same_fold plan s.lo bytes)) ∙ m.sends;
   some = m.some;
-  called = sym (same_called plan part s.lo s.hi m.target) ∙ m.called;
+  called = sym (bare_names plan part s.lo s.hi m.target) ∙ m.called;
 }
 
 -- a plan that a pipeline text tells has few branches

@@ -58,7 +58,7 @@ use Rattle.gob_history.specs.Laws.{CommittedGroup, LeftAlong, RecoverAlong, Stag
 use Rattle.gob_history.specs.Laws.{group_steps, staged_state}
 use Rattle.gob_history.specs.Examples.{after_plain}
 use Rattle.gob_history.proofs.Along.{stands_along}
-use Rattle.gob_history.proofs.Examples.{example}
+use Rattle.gob_history.proofs.Examples.{example, state_left, cond_some}
 use Rattle.gob_history.proofs.Goes.{goes}
 use Rattle.gob_history.proofs.Keeps.{committing}
 use Rattle.gob_history.proofs.Kept.{stored_proper}
@@ -222,22 +222,12 @@ second_next : next_of_group job (Some one_line) (line_unit 2 5 ∷ []) ≡ two_d
 unfolding next_state sum_of
 second_next = refl
 
-plain_left : state_after job two_lines [] None ≡ Some plain_state
-unfolding groups_of digits escaped is_utf8 chars lib.Utf8.encode lines_from bytes_from test_holds unit_fold counts_of
-    stop_of picks place_of line_rows record_of made_in_branch line_made ruling warnings_of verdict_of sum_of
-    units_of_parts next_state own_pulls turns_of verdicts_of
-plain_left = refl
-
 plain_proper : Proper plain_state
-plain_proper = stored_proper j1 after_plain plain_state (subst (Stores j1 after_plain) plain_left example.left.stored)
+plain_proper = stored_proper j1 after_plain plain_state (subst (Stores j1 after_plain) state_left example.left.stored)
 
 -- a state of the one partition
 abbrev state_with : ℕ → ℕ → Marks → State
 state_with run lines marks = record plain_state { run = run; totals = lines_written lines; parts = (a_log, marks) ∷ [] }
-
-cond_some : {A : Type 0} (b : Bool) (x m : A) → cond b (Some x) None ≡ Some m → (b ≡ true) × (x ≡ m)
-cond_some true x m e = (refl, cc)
-cond_some false x m e = absurd (let no : None ≡ Some m = e in cc)
 
 record SmallMarks (marks : Marks) : Type 0 where
   begun : 0 < marks.next

@@ -1,4 +1,3 @@
-mod AmongNumbers
 pub mod Elements
 pub mod Words
 pub mod Trims

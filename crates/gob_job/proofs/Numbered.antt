@@ -13,7 +13,7 @@ use Rattle.gob_bytes.proofs.Forms.{one_form}
 use Rattle.gob_jobs.specs.KeyTable.{Row, first_rows, branch_rows, last_rows}
 use Rattle.gob_jobs.specs.Reading.{with_number, keys_of_row, is_known}
 use Rattle.gob_job.specs.KeysKnown.{any_number}
-use Rattle.gob_job.proofs.AmongNumbers.{own_among, among_own}
+use Rattle.gob_jobs.proofs.Unknown.{own_among, among_own}
 
 none_there : (v : Bool) → (v ≡ true → ⊥) → false ≡ v
 none_there true never = absurd (never refl)

@@ -66,12 +66,12 @@ KeyBy n standing k key =
 keys_by : ℕ → Standing → List ℕ → List (List ℕ)
 keys_by n standing k = let own = map (with_number k) (range_with_len 0 n) in by_standing standing (k ∷ []) own (k ∷ own)
 
-own_among : (n : ℕ) (k key : List ℕ) → (b : ℕ) × (b < n) × (key ≡ with_number k b)
+pub own_among : (n : ℕ) (k key : List ℕ) → (b : ℕ) × (b < n) × (key ≡ with_number k b)
     → list_any (bytes_eq key) (map (with_number k) (range_with_len 0 n)) ≡ true
 unfolding numbers_of
 own_among n k key is = number_among k 0 n key (is.0, omega arith, omega arith, is.2)
 
-among_own : (n : ℕ) (k key : List ℕ) → list_any (bytes_eq key) (map (with_number k) (range_with_len 0 n)) ≡ true
+pub among_own : (n : ℕ) (k key : List ℕ) → list_any (bytes_eq key) (map (with_number k) (range_with_len 0 n)) ≡ true
     → (b : ℕ) × (b < n) × (key ≡ with_number k b)
 unfolding numbers_of
 among_own n k key is = let p = among_number k 0 n key is in (p.0, omega arith, p.3)

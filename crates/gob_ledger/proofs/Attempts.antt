@@ -20,7 +20,7 @@ use Rattle.gob_ledger.proofs.Counting.{failures_more, failures_other, pulled_fai
 use Rattle.gob_ledger.proofs.Scheduling.{IsLeft, Numbered, get_in, is_left, one_number}
 use Rattle.gob_ledger.proofs.Taking.{get_here, listed_member, listed_unit, numbered_units, turns_scheduled}
 
-in_front : {X : Type 0} (n : ℕ) (xs : List X) (x : X) → Contains (take n xs) x → Contains xs x
+pub in_front : {X : Type 0} (n : ℕ) (xs : List X) (x : X) → Contains (take n xs) x → Contains xs x
 in_front zero xs x h = none_in x h
 in_front (suc n) [] x h = none_in x h
 in_front (suc n) (y ∷ ys) x h = ⊎_elim (λ e. first_in y ys x e) (λ k. later_in y ys x (in_front n ys x k))

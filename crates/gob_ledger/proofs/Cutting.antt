@@ -26,6 +26,7 @@ use Rattle.gob_ledger.specs.Archive.{IsLineStart, LiesOnLines, LiesIn, IsWithin}
 use Rattle.gob_ledger.specs.Laws.{UnitsFitState, UnitsLieOnLines}
 use Rattle.gob_ledger.proofs.Members.{none_in, first_in, later_in, in_cases, in_filter, filter_in, in_map, in_flat_map}
 use Rattle.gob_ledger.proofs.Ranges.{order_members, owed_below, done_below, times, covered-is, times-append, within}
+use Rattle.gob_ledger.proofs.Attempts.{in_front}
 
 -- what a search gives is one of the list, and passes
 find_gives : (p : ℕ → Bool) (xs : List ℕ) (x : ℕ) → find p xs ≡ Some x → Contains xs x × (p x ≡ true)
@@ -160,7 +161,7 @@ pick_new part q (suc k) (s ∷ ss) = pick_new part q k ss
 abbrev pub cuts_at : Table Marks → Limits → Held → List ℕ → List WorkUnit
 cuts_at parts limits kept q = unwrap_or (option_map (λ bytes. cuts_of parts limits (q, bytes)) (at_name kept q)) []
 
-turned : (x y : List ℕ) → bytes_eq x y ≡ false → bytes_eq y x ≡ false
+pub turned : (x y : List ℕ) → bytes_eq x y ≡ false → bytes_eq y x ≡ false
 turned x y e = elim (bytes_eq y x) as (λ b. bytes_eq y x ≡ b → b ≡ false) [
   | true ↦ λ f. let back : bytes_eq x y ≡ true = subst (λ z. bytes_eq x z ≡ true) (sym (same_name y x f))
       (name_itself x) in cc
@@ -257,12 +258,6 @@ below_all {X} (d ∷ ds) low e rising h = ⊎_elim
 
 -- ---- members
 
-take_in : {X : Type 0} (n : ℕ) (xs : List X) (x : X) → Contains (take n xs) x → Contains xs x
-take_in zero xs x h = none_in x h
-take_in (suc n) [] x h = none_in x h
-take_in (suc n) (y ∷ ys) x h = ⊎_elim (λ e. first_in y ys x e) (λ k. later_in y ys x (take_in n ys x k))
-    (in_cases y (take n ys) x h)
-
 pick_in : (k : ℕ) (us : List WorkUnit) (u : WorkUnit) → Contains (pick k us) u → Contains us u
 pick_in k [] u h = none_in u h
 pick_in zero (v ∷ us) u h = ⊎_elim (λ e. first_in v us u e) (λ l. none_in u l) (in_cases v [] u h)
@@ -284,7 +279,7 @@ new_member parts held limits u h =
     let lists = all_cuts parts held limits in
     let rounds = length (flat_map (λ (xs : List WorkUnit). xs) lists) in
     let a = in_flat_map (λ k. flat_map (pick k) lists) (range_with_len 0 rounds) u
-    (take_in limits.max_new_units (in_rounds rounds lists) u h) in
+    (in_front limits.max_new_units (in_rounds rounds lists) u h) in
     let b = in_flat_map (pick a.0) lists u a.2 in
     let c = in_map (cuts_of parts limits) (kept_parts limits held) b.0 b.1 in
     let there : Contains (cuts_of parts limits c.0) u = subst (λ us. Contains us u) (sym c.2) (pick_in a.0 b.0 u b.2) in

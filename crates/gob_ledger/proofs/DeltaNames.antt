@@ -7,7 +7,7 @@ use Rattle.std.specs.declared.cmp.Ordering.TheVariants.{Less, Equal, Greater}
 use Rattle.std.specs.List.{Contains}
 use Rattle.std.specs.Ordering.{nat_cmp, ordering_then}
 use Rattle.std.proofs.lemmas.Bool.{cases_order, eq-eqb, lt-ltb, le-ltb}
-use Rattle.gob_bytes.proofs.Forms.{offsets_one_form}
+use Rattle.gob_bytes.proofs.Forms.{offsets_one_form, length-padded}
 use Rattle.gob_bytes.proofs.Tables.{less_apart, less_then, name_level, rising_tail}
 use Rattle.gob_bytes.specs.Digits.{offset, padded}
 use Rattle.gob_bytes.specs.Paths.{begins_with, under, state_name, delta_folder, delta_name}
@@ -70,17 +70,12 @@ cmp_push (x ∷ xs) (y ∷ ys) a b same = cases (nat_cmp x y) (cmp_push xs ys a 
     cases Equal later = later
     cases Greater later = refl
 
-padded_length : (k n : ℕ) → length (padded k n) ≡ k
-unfolding padded
-padded_length zero n = refl
-padded_length (suc k) n = let shorter = padded_length k (n / 10) in simp length-append (omega arith)
-
 padded_order : (k m n : ℕ) → m < n → n < 10 ^ k → name_cmp (padded k m) (padded k n) ≡ Less
 unfolding padded
 padded_order zero m n less small = absurd (omega (arith, less, small))
 padded_order (suc k) m n less small =
     cmp_push (padded k (m / 10)) (padded k (n / 10)) (48 + m % 10) (48 + n % 10)
-    (padded_length k (m / 10) ∙ sym (padded_length k (n / 10)))
+    (length-padded k (m / 10) ∙ sym (length-padded k (n / 10)))
     ∙ ⊎_elim
     (λ level.
     let last : m % 10 < n % 10 = omega (arith, level, less) in

@@ -149,7 +149,7 @@ changes_or_stop job m v s (name ∷ names) proper order some =
 
 -- ---- the map
 
-no_file : (job : List ℕ) (m : Files) (names : List (List ℕ)) (name : List ℕ) → IsListing (delta_folder job) m names
+pub no_file : (job : List ℕ) (m : Files) (names : List (List ℕ)) (name : List ℕ) → IsListing (delta_folder job) m names
     → begins_with (delta_folder job) name ≡ true → (Contains names name → ⊥) → contents_at m name ≡ None
 no_file job m names name listing below out = cases (m name) refl
   where

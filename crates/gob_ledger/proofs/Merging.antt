@@ -205,7 +205,7 @@ order_joined from mid (x ∷ xs) ys le ox below oy = (
       (λ s h. below s (later_in x xs s h)) oy,
 )
 
-map_same : (ss : List Span) → map (λ (s : Span). s) ss ≡ ss
+pub map_same : (ss : List Span) → map (λ (s : Span). s) ss ≡ ss
 map_same [] = refl
 map_same (s ∷ ss) = ap (λ (ts : List Span). s ∷ ts) (map_same ss)
 

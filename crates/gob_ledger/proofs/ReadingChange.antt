@@ -246,7 +246,7 @@ length_drop_le : (n : ℕ) (ps : List (List ℕ)) → length (drop n ps) ≤ len
 length_drop_le n ps = omega (arith, length-drop n ps)
 
 -- the version that spells a state spells what it leads to
-fits_after : (v : Version) (s t : State) → LeadsTo v s t → FitsVersion v t
+pub fits_after : (v : Version) (s t : State) → LeadsTo v s t → FitsVersion v t
 fits_after version_1 s t leads = ap length leads.pipelines.1 ∙ leads.pipelines.0
 fits_after version_2 s t leads = tt
 

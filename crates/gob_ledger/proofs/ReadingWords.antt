@@ -14,7 +14,7 @@ use Rattle.std.proofs.lemmas.List.Elements.{All-head, All-tail, All-from_recursi
 use Rattle.percent_encoding.specs.Percent.{percent_encode_byte, percent_decode}
 use Rattle.gob_bytes.specs.Escapes.{is_letter, is_digit, is_plain, escaped, AreBytes}
 use Rattle.gob_bytes.specs.Numbers.{number_read}
-use Rattle.gob_bytes.proofs.Forms.{one_form, unescaped}
+use Rattle.gob_bytes.proofs.Forms.{one_form, unescaped, own}
 use Rattle.gob_bytes.proofs.Tables.{name_itself, same_name}
 use Rattle.gob_ledger.specs.Spelling.{Small}
 use Rattle.gob_jobs.specs.Pipelines.{is_key, IsSetting}
@@ -38,9 +38,6 @@ in_range_above : (lo hi b : ℕ) → (nat_le lo b && nat_le b hi) ≡ true → (
 in_range_above lo hi b e = let p = and_parts (nat_le lo b) (nat_le b hi) e in (leb-true lo b p.0, leb-true b hi p.1)
 
 -- ---- numbers
-
-own : IsNumeralModel (λ ds. all_ascii_digits ds ≡ true) (digits_value 10)
-own = numerals_by_value _ tells_all_ascii_digits
 
 digits_are_word : (ds : List ℕ) → all_ascii_digits ds ≡ true → IsWord ds
 digits_are_word [] e = refl

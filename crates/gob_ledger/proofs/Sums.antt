@@ -29,6 +29,7 @@ use Rattle.gob_ledger.proofs.Members.{first_in, later_in, in_flat_map, in_map}
 use Rattle.gob_ledger.proofs.Changes.{marks_or, adds-pipelines, finishes-pipelines, with-parts, pipeline_there}
 use Rattle.gob_ledger.proofs.Changes.{pipeline_stays}
 use Rattle.gob_ledger.proofs.Grown.{map_alike, flat_map_alike}
+use Rattle.gob_ledger.proofs.Properly.{with-totals}
 use Rattle.gob_jobs.specs.Plans.{plan_of}
 
 -- the end of a u64
@@ -375,10 +376,6 @@ same_table p s archive tiled rising =
     e.1.finished
     (λ d k. ap (λ o. counts_where o archive e.0 d.span) (same_plan p s d.pipeline
     (tiled.indexed e.0 e.1 d (at_from_member s.parts e.0 e.1 rising h) k))))
-
-with-totals : (p : List ℕ) (s : State) → (with_pipeline p s).totals ≡ s.totals
-with-totals p s = elim (list_any (bytes_eq p) s.pipelines) as
-    (λ b. (cond b s (record s { pipelines = s.pipelines ++ p ∷ [] })).totals ≡ s.totals) [ true ↦ refl | false ↦ refl ]
 
 committed_total : (g : Counts → ℕ) → Adds g → (s : State) (pipeline : List ℕ) (plan : Plan) (archive : Held)
     (all done : List Judged) → TiledState s → IsInByteOrder (names_of s.parts) → plan_of pipeline ≡ Some plan

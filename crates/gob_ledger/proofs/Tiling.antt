@@ -22,6 +22,7 @@ use Rattle.gob_ledger.proofs.Members.{none_in, first_in, later_in, in_cases, in_
 use Rattle.gob_ledger.proofs.Ranges.{tiled_none, tiled_owed, tiled_done, span_is, same_itself}
 use Rattle.gob_ledger.proofs.Changes.{marks_or, marks_or-at, changed_cases, at_itself, at_other, all_member, units_in}
 use Rattle.gob_ledger.proofs.Changes.{units_of_zip, adds-pipelines, with-parts, pipeline_there, pipeline_stays}
+use Rattle.gob_ledger.proofs.Cutting.{turned}
 
 pub in_insert : (d : Done) (es : List Done) (x : Done) → Contains (insert_done d es) x → (d ≡ x) ⊎ Contains es x
 in_insert d [] x h = in_cases d [] x h
@@ -99,13 +100,6 @@ fresh_skip : (u : WorkUnit) (us : List WorkUnit) (part : List ℕ) → (u.fresh 
     → fresh_in part (u ∷ us) ≡ fresh_in part us
 fresh_skip u us part h = ap (λ b. cond b (u ∷ fresh_in part us) (fresh_in part us))
     (not_both u.fresh (bytes_eq u.part part) h)
-
-turned : (x y : List ℕ) → bytes_eq x y ≡ false → bytes_eq y x ≡ false
-turned x y e = elim (bytes_eq y x) as (λ b. bytes_eq y x ≡ b → b ≡ false) [
-  | true ↦ λ f. let back : bytes_eq x y ≡ true = subst (λ z. bytes_eq x z ≡ true) (sym (same_name y x f))
-      (name_itself x) in cc
-  | false ↦ λ f. refl
-] refl
 
 -- what one added unit leaves
 pub record Added (s t : State) (u : WorkUnit) (us : List WorkUnit) : Type 0 where

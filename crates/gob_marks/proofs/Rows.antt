@@ -17,7 +17,7 @@ use Rattle.gob_ledger.proofs.Ranges.{tiled_none}
 use Rattle.gob_ledger.specs.Next.{with_owed}
 use Rattle.gob_ledger.proofs.Ranges.{tiled_owed}
 use Rattle.gob_memory.specs.Places.{StandsAt, GoesAt}
-use Rattle.gob_memory.proofs.Places.{at-changed, with-changed, with-added}
+use Rattle.gob_memory.proofs.Places.{at-changed, with-changed, with-added, less_greater}
 use Rattle.gob_marks.specs.Changed.{marks_in, change_marks, next_span, with_new_done}
 use Rattle.gob_marks.specs.Tables.{TiledTable}
 use Rattle.gob_marks.proofs.Tiles.{tiled_new_done}
@@ -52,9 +52,6 @@ pub tiled_entry : (t : Table Marks) (e : List ℕ × Marks) → TiledTable t →
 tiled_entry t e table there = table.tiled e.0 e.1 (at_from_member t e.0 e.1 table.names there)
 
 -- ---- a name behind all others
-
-less_greater : (x y : List ℕ) → name_cmp x y ≡ Less → name_cmp y x ≡ Greater
-less_greater x y e = nat_list_cmp_total.antisymm y x ∙ ap ordering_reverse e
 
 first_below : (low : List ℕ) (names : List (List ℕ)) (name : List ℕ) → IsInByteOrder (low ∷ (names ++ name ∷ []))
     → name_cmp low name ≡ Less

@@ -15,7 +15,7 @@ use Rattle.std.proofs.lemmas.Fmt.{digits_decimal}
 use Rattle.percent_encoding.specs.Percent.{percent_encode_byte}
 use Rattle.gob_bytes.specs.Digits.{padded, offset}
 use Rattle.gob_bytes.specs.Escapes.{is_plain, escaped}
-use Rattle.gob_bytes.proofs.Forms.{one_form, escapes_apart, offsets_one_form}
+use Rattle.gob_bytes.proofs.Forms.{one_form, escapes_apart, offsets_one_form, own}
 use Rattle.gob_plan.specs.declared.plan.Format.{Format}
 use Rattle.gob_plan.specs.declared.plan.Format.TheVariants as format
 use Rattle.gob_plan.specs.declared.plan.BranchSpec.{BranchSpec}
@@ -75,9 +75,6 @@ folder_parted (a ∷ p) (b ∷ q) x y folder folder' lacks lacks' same =
     let head : a ≡ b = cc in (cc (head, later.0), later.1)
 
 -- ---- the parts of a name
-
-own : IsNumeralModel (λ ds. all_ascii_digits ds ≡ true) (digits_value 10)
-own = numerals_by_value _ tells_all_ascii_digits
 
 digits_lack : (ds : List ℕ) → all_ascii_digits ds ≡ true → Lacks 47 ds
 digits_lack [] all = refl

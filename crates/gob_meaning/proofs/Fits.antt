@@ -93,7 +93,7 @@ bare_counts : (plan : Plan) (fold : List Folded) → counts_of (without_rules pl
 unfolding counts_of
 bare_counts plan fold = refl
 
-bare_names : (plan : Plan) (part : List ℕ) (lo hi : ℕ) (t : Target) → target_name (without_rules plan) part lo hi t
+pub bare_names : (plan : Plan) (part : List ℕ) (lo hi : ℕ) (t : Target) → target_name (without_rules plan) part lo hi t
     ≡ target_name plan part lo hi t
 unfolding target_name
 bare_names plan part lo hi (out b place) = refl

@@ -14,7 +14,7 @@ use Rattle.gob_bytes.proofs.Tables.{same_name, name_itself, two_names, level_nam
 use Rattle.gob_bytes.proofs.Tables.{rising_tail, none_below, at_from_member}
 use Rattle.gob_memory.specs.Places.{rank_of, without_name, StandsAt, GoesAt}
 
-less_greater : (x y : List ℕ) → name_cmp x y ≡ Less → name_cmp y x ≡ Greater
+pub less_greater : (x y : List ℕ) → name_cmp x y ≡ Less → name_cmp y x ≡ Greater
 less_greater x y e = nat_list_cmp_total.antisymm y x ∙ ap ordering_reverse e
 
 pub rank-le : {X : Type 0} (t : Table X) (name : List ℕ) → rank_of t name ≤ length t
@@ -246,7 +246,7 @@ at-without {X} (e ∷ es) name q rising = cases (bytes_eq name e.0) refl
         ∙ cond_none (bytes_eq q e.0) (bytes_eq q name) e.1 (at_name es q)
         (λ a b. let both : bytes_eq name e.0 ≡ true = subst (λ n. bytes_eq n e.0 ≡ true) (same_name q name b) a in cc))
 
-rising_shorter : (low x : List ℕ) (xs : List (List ℕ)) → name_cmp low x ≡ Less → IsInByteOrder (x ∷ xs)
+pub rising_shorter : (low x : List ℕ) (xs : List (List ℕ)) → name_cmp low x ≡ Less → IsInByteOrder (x ∷ xs)
     → IsInByteOrder (low ∷ xs)
 rising_shorter low x [] below rising = tt
 rising_shorter low x (y ∷ ys) below rising = (less_then low x y below rising.0, rising.1)

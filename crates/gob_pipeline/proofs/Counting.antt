@@ -17,6 +17,7 @@ use Rattle.gob_meaning.specs.Sums.{both_branches, branch_sums, sum_of}
 use Rattle.gob_pipeline.specs.Taking.{counts_of_line, fold_of_items, one_more, one_line, line_of_end}
 use Rattle.gob_pipeline.specs.declared.pipeline.LineEnd.{LineEnd}
 use Rattle.gob_pipeline.specs.declared.pipeline.LineEnd.TheVariants as end
+use Rattle.gob_branch.proofs.Joined.{goes_on}
 
 abbrev pub of_branch : ℕ → List RowMade → List RowMade
 of_branch b items = filter (λ i. nat_eq i.branch b) items
@@ -65,10 +66,6 @@ counting_cons made b x rest all e c = record {
   optional = saturates made.optional _ (optional_in (of_branch b rest)) (optional_in (of_branch b (x ∷ rest)))
       (ap optional_in e ∙ sum_by-cons _ x (of_branch b rest)) ∙ c.optional;
 }
-
-goes_on : {A : Type 0} (xs : List A) (i : ℕ) (x : A) → i < length xs → x ≡ get_or xs i x
-    → drop i xs ≡ x ∷ drop (i + 1) xs
-goes_on xs i x lt is = rw add-one (drop-cons xs i x lt ∙ ap (λ y. y ∷ drop (suc i) xs) (sym is))
 
 -- an item of the branch
 pub counting_on : (made : BranchCounts) (b : ℕ) (items : List RowMade) (i : ℕ) (x : RowMade) → i < length items

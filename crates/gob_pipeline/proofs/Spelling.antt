@@ -19,6 +19,7 @@ use Rattle.std.specs.Str.Parse.{digits_value}
 use Rattle.percent_encoding.specs.Percent.{percent_encode_byte}
 use Rattle.gob_bytes.specs.Digits.{padded, offset}
 use Rattle.gob_bytes.specs.Escapes.{escaped, is_plain, is_letter, is_digit}
+use Rattle.gob_bytes.proofs.Forms.{own}
 use Rattle.gob_plan.specs.declared.plan.Format.{Format}
 use Rattle.gob_plan.specs.declared.plan.Format.TheVariants as format
 use Rattle.gob_plan.specs.declared.plan.BranchSpec.{BranchSpec}
@@ -59,9 +60,6 @@ padded_name (suc k) n = joined_name (padded k (n / 10)) ((48 + n % 10) ∷ []) (
 offset_name : (n : ℕ) → AreName (offset n)
 unfolding offset
 offset_name n = padded_name 20 n
-
-own : IsNumeralModel (λ ds. all_ascii_digits ds ≡ true) (digits_value 10)
-own = numerals_by_value _ tells_all_ascii_digits
 
 digits_name : (ds : List ℕ) → all_ascii_digits ds ≡ true → AreName ds
 digits_name [] all = refl

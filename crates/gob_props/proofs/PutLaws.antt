@@ -2,20 +2,9 @@
 use Rattle.std.proofs.Common.{◌≡◌, ℕ, Bool, true, false, cond, bytes_eq, List, [], ◌∷◌, ◌++◌, refl, sym, ap, ◌∙◌}
 use Rattle.std.proofs.Common.{Some, is_some}
 use Rattle.gob_bytes.specs.Tables.{at_name, names_of}
-use Rattle.gob_bytes.proofs.Tables.{same_name, name_itself}
+use Rattle.gob_bytes.proofs.Tables.{same_name, name_itself, cond_twice, cond_shadowed}
 use Rattle.gob_props.specs.Properties.{Entry, with_entry}
 use Rattle.gob_props.specs.Laws.{PutsEntry}
-
-cond_turned : {A : Type 0} (b c : Bool) (x y z : A) → (b ≡ true → c ≡ true → ⊥) →
-    cond b x (cond c y z) ≡ cond c y (cond b x z)
-cond_turned true true x y z apart = absurd (apart refl refl)
-cond_turned true false x y z apart = refl
-cond_turned false true x y z apart = refl
-cond_turned false false x y z apart = refl
-
-cond_over : {A : Type 0} (b : Bool) (x y z : A) → cond b x z ≡ cond b x (cond b y z)
-cond_over true x y z = refl
-cond_over false x y z = refl
 
 values : (es : List Entry) (new : Entry) (key : List ℕ) →
     at_name (with_entry es new) key ≡ cond (bytes_eq key new.0) (Some new.1) (at_name es key)
@@ -28,11 +17,11 @@ values (e ∷ es) new key = either (bytes_eq new.0 e.0) refl (values es new key)
         ≡ cond (bytes_eq key new.0) (Some new.1) (at_name (e ∷ es) key)
     either true same more =
         let n : new.0 ≡ e.0 = same_name new.0 e.0 same in
-        cond_over (bytes_eq key e.0) (Some new.1) (Some e.1) (at_name es key)
+        cond_shadowed (bytes_eq key e.0) (Some new.1) (Some e.1) (at_name es key)
         ∙ ap (λ q. cond (bytes_eq key q) (Some new.1) (at_name (e ∷ es) key)) (sym n)
     either false apart more =
         ap (λ o. cond (bytes_eq key e.0) (Some e.1) o) more
-        ∙ cond_turned (bytes_eq key e.0) (bytes_eq key new.0) (Some e.1) (Some new.1) (at_name es key)
+        ∙ cond_twice (bytes_eq key e.0) (bytes_eq key new.0) (Some e.1) (Some new.1) (at_name es key)
         (λ a b. let n : new.0 ≡ e.0 = sym (same_name key new.0 b) ∙ same_name key e.0 a in
         let is : bytes_eq new.0 e.0 ≡ true = ap (bytes_eq new.0) (sym n) ∙ name_itself new.0 in cc)
 

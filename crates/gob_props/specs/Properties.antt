@@ -1,7 +1,7 @@
 -- What a properties text says: first its natural lines, then its logical lines, then each one's key and value, and then
 -- the escapes in these. A text is a list of characters.
 use Rattle.std.specs.Prelude.{ℕ, zero, suc, ◌+◌, ◌-◌, ◌*◌, ◌%◌, Bool, true, false, cond, ◌&&◌, ◌||◌, not, nat_eq}
-use Rattle.std.specs.Prelude.{nat_le, List, [], ◌∷◌, ◌++◌, length, take, drop, fold, encode_utf8_all}
+use Rattle.std.specs.Prelude.{if◌then◌else◌, nat_le, List, [], ◌∷◌, ◌++◌, length, take, drop, fold, encode_utf8_all}
 use Rattle.std.specs.declared.option.Option.{Option}
 use Rattle.std.specs.declared.option.Option.TheVariants.{None, Some}
 use Rattle.std.specs.declared.result.Result.{Result}
@@ -125,7 +125,11 @@ pub record Character : Type 0 where
 
 -- what a character means after a backslash: `t`, `n`, `r` and `f` are a tab, LF, CR and form feed, others themselves
 abbrev pub meaning_of : ℕ → ℕ
-meaning_of c = cond (nat_eq c 116) 9 (cond (nat_eq c 110) 10 (cond (nat_eq c 114) 13 (cond (nat_eq c 102) 12 c)))
+meaning_of c =
+    if nat_eq c 116 then 9
+    else (if nat_eq c 110 then 10
+    else (if nat_eq c 114 then 13
+    else (if nat_eq c 102 then 12 else c)))
 
 -- the UTF-16 code unit of four hexadecimal digits at the front
 unfoldable pub code_unit : List ℕ → Option ℕ

@@ -73,7 +73,7 @@ below_synced folder name m inside = below_put folder name m _ inside
 
 -- ---- the staged sequence
 
-front_more : (front more : List ℕ) → begins_with front (front ++ more) ≡ true
+pub front_more : (front more : List ℕ) → begins_with front (front ++ more) ≡ true
 front_more [] [] = refl
 front_more [] (b ∷ more) = refl
 front_more (b ∷ front) more = and_from (nat_eq b b) (begins_with front (front ++ more)) (eq-eqb b b refl)

@@ -24,6 +24,7 @@ use Rattle.gob_history.proofs.Goes.{goes}
 use Rattle.gob_history.proofs.Rising.{rises_more, rises_on}
 use Rattle.gob_history.proofs.Stands.{standing}
 use Rattle.gob_history.proofs.Steadied.{quiet_sequence, steadied}
+use Rattle.gob_history.proofs.Along.{each_append}
 use Rattle.gob_run.specs.Entry.{SettleAlike}
 
 -- ---- a map that recovers settles
@@ -120,10 +121,6 @@ rises_behind job first (n ∷ ns) here added begins each rises =
 
 -- ---- a run in its three parts
 
-each_both : (P : Files → Type 0) (ms ns : List Files) → EachOf P ms → EachOf P ns → EachOf P (ms ++ ns)
-each_both P [] ns a b = b
-each_both P (m ∷ ms) ns a b = (a.0, each_both P ms ns a.1 b)
-
 -- the maps of a run that was stopped between its commits, or within one: those of settling, those of its turns, which
 -- differ from the settled one in staged files alone, and those of its commits
 pub run_trail : (job : Job) (held : Held) (failing : List ℕ) (m settled last : Files) (o : Option State)
@@ -139,4 +136,4 @@ run_trail job held failing m settled last o before rest maps first turns commits
     (goes_along job held failing m settled last o before rest maps ((first ++ turns) ++ commits) settles stores done
     whole
     (λ quiet. rises_behind job.name settled maps (first ++ turns) commits done.begins
-    (each_both (SettlesAs job.name settled) first turns (alike settled quiet settles) staged) rises))
+    (each_append (SettlesAs job.name settled) first turns (alike settled quiet settles) staged) rises))

@@ -18,12 +18,7 @@ use Rattle.gob_history.proofs.Steadied.{steadied}
 use Rattle.gob_seq.specs.Maps.{SettlesByName}
 use Rattle.gob_run.specs.Answers.{ReadersOfSettling}
 use Rattle.gob_run.proofs.Entering.{settled_of}
-
-sequence_unpublished : (job : List ℕ) → is_published job (sequence_name job) ≡ false
-sequence_unpublished job =
-    ap (λ v. cond v true (begins_with (under job (codes "err/")) (sequence_name job)))
-    (under_front job (codes "out/") (codes "seq"))
-    ∙ under_front job (codes "err/") (codes "seq")
+use Rattle.gob_commit.proofs.Reading.{sequence_unpublished}
 
 -- a published file of a steady map is clean, and expected of its state
 pub durable_readable : (job : List ℕ) (archive : Held) (o : Option State) (m : Files) → IsDurable job archive o m

@@ -28,6 +28,7 @@ use Rattle.gob_history.specs.Runs.{next_of_group, run_groups, state_after, store
 use Rattle.gob_history.specs.Sound.{IsDurable, Stores}
 use Rattle.gob_history.proofs.Left.{groups_steady}
 use Rattle.gob_history.proofs.Steadied.{steadied}
+use Rattle.gob_history.proofs.Composes.{after_more}
 use Rattle.gob_run.specs.Answers.{ReadersOfRun, ReadersOfSettling}
 use Rattle.gob_run.proofs.Readers.{durable_readable}
 
@@ -87,11 +88,6 @@ among_right job archive (g ∷ gs) o (m ∷ ms) k name f durable among published
     (durable_readable job.name archive o m durable.0 name f published (subst (λ n. n name ≡ Some f) (sym is) here)))
     (λ later. among_right job archive gs (after_group job o g) ms k name f durable.1 later published here)
     (in_cases m ms k among)
-
-after_more : (job : Job) (before rest : List (List Judged)) (o : Option State)
-    → after_groups job o (before ++ rest) ≡ after_groups job (after_groups job o before) rest
-after_more job [] rest o = refl
-after_more job (g ∷ gs) rest o = after_more job gs rest (after_group job o g)
 
 -- ---- a run's maps
 

@@ -179,6 +179,7 @@ early_idle job old new early d s in_old in_supply =
         trail = t.2.trail;
         stands = t.2.stands;
         alike = settle_alike job.name d.files t.2.added t.2.holds.0;
+        names = t.2.holds.1;
       },
     )
 

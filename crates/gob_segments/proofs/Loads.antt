@@ -23,6 +23,7 @@ use Rattle.gob_ledger.proofs.DeltaNames.{name_above, not_itself_less}
 use Rattle.gob_ledger.proofs.Members.{none_in, first_in, later_in, in_cases}
 use Rattle.gob_ledger.proofs.OneDamage.{damaged_keeps_nothing, one_blamed}
 use Rattle.gob_ledger.proofs.OneState.{first_change, other_change}
+use Rattle.gob_ledger.proofs.KeptOrDamaged.{no_file}
 use Rattle.gob_segments.specs.Loading.{BlamesDamage, BlamesNext, BlamesSome, IsBase, IsKept, IsNext, LedTo}
 use Rattle.gob_segments.specs.Loading.{LoadDamageDue, LoadedFits, RoseIfLoadFailed, StopsAt, TellsNext}
 use Rattle.gob_device.proofs.Causes.{rose_after}
@@ -94,14 +95,6 @@ led_on job m v s (name ∷ names) t order (u, bytes, named, holds, reads, rest) 
     }
 
 -- ---- what is kept
-
-no_file : (job : List ℕ) (m : Files) (names : List (List ℕ)) (name : List ℕ) → IsListing (delta_folder job) m names
-    → begins_with (delta_folder job) name ≡ true → (Contains names name → ⊥) → contents_at m name ≡ None
-no_file job m names name listing below out = cases (m name) refl
-  where
-    cases : (o : Option File) → m name ≡ o → option_map contents_of o ≡ None
-    cases None e = refl
-    cases (Some f) e = absurd (out ((listing.exact name).1 (below, ap is_some e)))
 
 pub nothing_kept : (job : List ℕ) (m : Files) (names : List (List ℕ)) (l : Loaded)
     → contents_at m (state_name job) ≡ None

@@ -10,11 +10,12 @@ use Rattle.gob_ledger.specs.Spelling.{Version}
 use Rattle.gob_ledger.specs.Units.{same_span}
 use Rattle.gob_ledger.specs.Delta.{MarksFollow, changed_marks}
 use Rattle.gob_ledger.proofs.Members.{none_in, first_in, later_in, in_cases, in_map, map_in}
-use Rattle.gob_ledger.proofs.Merging.{merged, merged_is, span_any, spans_in}
+use Rattle.gob_ledger.proofs.Merging.{merged, merged_is, span_any, spans_in, map_same}
 use Rattle.gob_ledger.proofs.Ranges.{covered-is, done_below, inside, one_in, order_members, owed_below, owed_free}
 use Rattle.gob_ledger.proofs.Ranges.{times, times_some, within}
 use Rattle.gob_ledger.proofs.Reading.{gathered}
 use Rattle.gob_ledger.proofs.StateLines.{Range, lo_of, rises_from}
+use Rattle.gob_ledger.proofs.Cutting.{times_gives}
 use Rattle.gob_state.proofs.RangeLemmas.{line_of}
 use Rattle.gob_state.specs.Ranges.{AreMarks, IndexIs, IsRangeLine}
 use Rattle.gob_segments.proofs.Changed.{one_holds}
@@ -23,16 +24,6 @@ use Rattle.gob_segments.proofs.Put.{old_or_changed, owed_low, owed_or_changed, p
 use Rattle.gob_segments.specs.Applied.{CanPut, MarksAfter}
 
 -- ---- which range covers an offset
-
-times_find : (at : ℕ) (ss : List Span) → 1 ≤ times at ss → (s : Span) × Contains ss s × (has at s ≡ true)
-times_find at [] some = absurd (omega (arith, some))
-times_find at (s ∷ ss) some = cases (has at s) refl some (times_find at ss)
-  where
-    cases : (b : Bool) → has at s ≡ b → 1 ≤ cond b 1 0 + times at ss
-        → (1 ≤ times at ss → (t : Span) × Contains ss t × (has at t ≡ true))
-        → (t : Span) × Contains (s ∷ ss) t × (has at t ≡ true)
-    cases true is some later = (s, first_in s ss s refl, is)
-    cases false is some later = let r = later (omega (arith, some)) in (r.0, later_in s ss r.0 r.1, r.2)
 
 abbrev CoversDone : ℕ → Marks → Type 0
 CoversDone at m = (d : marks.Done) × Contains m.finished d × (has at d.span ≡ true)
@@ -46,10 +37,10 @@ covering at m tiled below =
     sym (covered-is at m) ∙ tiled.once at ∙ ap (λ b. cond b 1 0) (lt-ltb at m.next below) in
     ⊎_elim
     (λ some.
-    let r = times_find at (done_spans m) (omega (arith, some)) in
+    let r = times_gives at (done_spans m) (omega (arith, some)) in
     let d = in_map (λ (e : marks.Done). e.span) m.finished r.0 r.1 in
     inl (d.0, d.1, subst (λ s. has at s ≡ true) (sym d.2) r.2))
-    (λ none. inr (times_find at m.owed (omega (arith, once, none))))
+    (λ none. inr (times_gives at m.owed (omega (arith, once, none))))
     (cases_lt 0 (times at (done_spans m)))
 
 -- an offset isn't in a done range and in an owed one
@@ -64,14 +55,10 @@ same_done_at : (at : ℕ) (m : Marks) (d e : marks.Done) → Tiled m → Contain
     → has at d.span ≡ true → has at e.span ≡ true → d ≡ e
 same_done_at at m d e tiled h k p q = one_holds (λ (x : marks.Done). x.span) at 0 m.finished d e tiled.finished h k p q
 
-map_itself : (ss : List Span) → map (λ (s : Span). s) ss ≡ ss
-map_itself [] = refl
-map_itself (s ∷ ss) = ap (λ (ts : List Span). s ∷ ts) (map_itself ss)
-
 same_owed_at : (at : ℕ) (m : Marks) (s t : Span) → Tiled m → Contains m.owed s → Contains m.owed t
     → has at s ≡ true → has at t ≡ true → s ≡ t
 same_owed_at at m s t tiled h k p q =
-    one_holds (λ (x : Span). x) at 0 m.owed s t (subst (InOrder 0) (sym (map_itself m.owed)) tiled.owed) h k p q
+    one_holds (λ (x : Span). x) at 0 m.owed s t (subst (InOrder 0) (sym (map_same m.owed)) tiled.owed) h k p q
 
 -- ---- one range more of a change that is known
 

@@ -17,6 +17,7 @@ use Rattle.gob_ledger.specs.Spelling.{parts_text, totals_text, version_number}
 use Rattle.gob_ledger.specs.Delta.{KeepsPipelines, LeadsTo, ReadsAsChange, changed_parts, delta_spelling, new_pipelines}
 use Rattle.gob_ledger.proofs.Changes.{all_member}
 use Rattle.gob_ledger.proofs.StateLines.{from_members}
+use Rattle.gob_ledger.proofs.ReadingChange.{fits_after}
 use Rattle.gob_state.proofs.FileLemmas.{no_branch_in_parts, no_part_at_end, proper_from, rest_of}
 use Rattle.gob_state.proofs.Steps.{Pairing, both_read, first_missing, is_missing, is_there, no_more, not_even, passed}
 use Rattle.gob_state.proofs.Steps.{refused, second_missing}
@@ -162,10 +163,6 @@ leads_from v s run z next f =
           ((f.0.0.apart.0, counts_fit v s z.0 f.0.0 f.0.1, f.0.0.apart.1), (f.1.0.0, (each, parts.names)))).0;
       pipelines = keeps_alone v s t f.0.0.alone;
     }
-
-fits_after : (v : Version) (s t : State) → LeadsTo v s t → FitsVersion v t
-fits_after version_1 s t leads = ap length leads.pipelines.1 ∙ leads.pipelines.0
-fits_after version_2 s t leads = tt
 
 pub rest_after : (v : Version) (s t : State) → LeadsTo v s t → IsNextRun s.run t.run × RestAfter v s (rest_in t)
 rest_after v s t leads =

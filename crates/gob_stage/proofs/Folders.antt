@@ -11,16 +11,15 @@ use Rattle.std.proofs.lemmas.Fmt.{decimal_injective, digits_decimal}
 use Rattle.std.proofs.lemmas.List.{append-nil, append_assoc, append_cancel_left}
 use Rattle.std.proofs.lemmas.Str.Parse.{IsNumeralModel, numerals_by_value, tells_all_ascii_digits}
 use Rattle.gob_bytes.specs.Paths.{attempt_folder, begins_with, staging, under}
+use Rattle.gob_bytes.proofs.Forms.{own}
 use Rattle.gob_device.specs.Disk.{Files}
 use Rattle.gob_device.specs.Names.{IsPathname, is_name_byte}
 use Rattle.gob_device.proofs.Names.{name_before, name_bytes}
 use Rattle.gob_recovery.specs.Commits.{OnlyBelow}
+use Rattle.gob_recovery.proofs.Commits.{front_more}
 use Rattle.gob_stage.specs.Laws.{Apart, AttemptsAreApart, AttemptsAreStaged, SameBelow}
 
 -- ---- the digits of a number
-
-own : IsNumeralModel (λ ds. all_ascii_digits ds ≡ true) (digits_value 10)
-own = numerals_by_value _ tells_all_ascii_digits
 
 are_digits : (n : ℕ) → n < 2 ^ 64 → all_ascii_digits (decimal n) ≡ true
 are_digits n small = digits_decimal own n small
@@ -88,14 +87,8 @@ rest_of (b ∷ front) (c ∷ name) begins =
     let later = rest_of front name parts.1 in
     (later.0, λ i. sym (eqb-true b c parts.0) i ∷ later.1 i)
 
-begins_more : (front more : List ℕ) → begins_with front (front ++ more) ≡ true
-begins_more [] [] = refl
-begins_more [] (b ∷ more) = refl
-begins_more (b ∷ front) more = and_from (nat_eq b b) (begins_with front (front ++ more)) (eq-eqb b b refl)
-    (begins_more front more)
-
 -- a folder and what is behind it, from the job's folder of staged files on
-folder_parts : (job : List ℕ) (unit attempt : ℕ) (more : List ℕ)
+pub folder_parts : (job : List ℕ) (unit attempt : ℕ) (more : List ℕ)
     → attempt_folder job unit attempt ++ more ≡ staging job ++ (decimal unit ++ 45 ∷ (decimal attempt ++ 47 ∷ more))
 folder_parts job unit attempt more = simp append_assoc
 
@@ -155,7 +148,7 @@ pub attempts_staged : AttemptsAreStaged
 attempts_staged job unit attempt name begins =
     let more = rest_of (attempt_folder job unit attempt) name begins in
     subst (λ n. begins_with (staging job) n ≡ true) (sym (more.1 ∙ folder_parts job unit attempt more.0))
-    (begins_more (staging job) (decimal unit ++ 45 ∷ (decimal attempt ++ 47 ∷ more.0)))
+    (front_more (staging job) (decimal unit ++ 45 ∷ (decimal attempt ++ 47 ∷ more.0)))
 
 -- ---- the folder's name may be given to a call
 

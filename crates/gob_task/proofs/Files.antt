@@ -15,6 +15,7 @@ use Rattle.gob_bytes.specs.Escapes.{is_digit, is_letter}
 use Rattle.gob_bytes.specs.Paths.{attempt_folder, staging, under}
 use Rattle.gob_bytes.specs.Tables.{IsInByteOrder, Table, at_name, names_of}
 use Rattle.gob_bytes.proofs.Tables.{member_from_at, name_itself}
+use Rattle.gob_bytes.proofs.Forms.{own}
 use Rattle.gob_device.specs.Disk.{Both, Disk}
 use Rattle.gob_device.specs.Names.{IsPathname}
 use Rattle.gob_device.proofs.Names.{name_bytes}
@@ -50,9 +51,6 @@ named_before : (name bytes : List ℕ) → is_file_name name ≡ true → list_a
     → is_file_name (name ++ bytes) ≡ true
 named_before [] bytes e spelled = absurd (let no : false ≡ true = e in cc)
 named_before (b ∷ bs) bytes e spelled = spelled_both (b ∷ bs) bytes e spelled
-
-own : IsNumeralModel (λ ds. all_ascii_digits ds ≡ true) (digits_value 10)
-own = numerals_by_value _ tells_all_ascii_digits
 
 digit_spelled : (b : ℕ) → is_digit b ≡ true → is_name_byte b ≡ true
 digit_spelled b digit = elim (is_letter b)

@@ -17,9 +17,7 @@ use Rattle.std.specs.Option.{option_map}
 use Rattle.std.proofs.lemmas.Str.Parse.{IsNumeralModel, numerals_by_value, tells_all_ascii_digits, parse_digits}
 use Rattle.std.proofs.lemmas.Str.Parse.{parse_signed_minus, parse_signed_digits}
 use Rattle.gob_bytes.specs.Numbers.{is_digits, read_up_to, has_spare_zero, number_read, integer_read}
-
-own : IsNumeralModel (λ ds. all_ascii_digits ds ≡ true) (digits_value 10)
-own = numerals_by_value _ tells_all_ascii_digits
+use Rattle.gob_bytes.proofs.Forms.{read_up_to_from, own}
 
 pub list_all-digits : (bs : List ℕ) → list_all is_ascii_digit bs ≡ all_ascii_digits bs
 list_all-digits [] = refl
@@ -47,10 +45,6 @@ read_up_to-no most bs no' = cond-false _ _ _ (and_left _ _ no')
 read_up_to-large : (most : ℕ) (bs : List ℕ) → most < digits_value 10 bs → read_up_to most bs ≡ None
 read_up_to-large most bs large = cond-false _ _ _ (and_right _ _ (lt-leb _ _ large))
 
-read_up_to-yes : (most : ℕ) (bs : List ℕ) → is_digits bs ≡ true → digits_value 10 bs ≤ most →
-    read_up_to most bs ≡ Some (digits_value 10 bs)
-read_up_to-yes most bs digits small = cond-true _ _ _ (and_from _ _ digits (le-leb _ _ small))
-
 read_up_to-refused : (most : ℕ) (bs : List ℕ) → list_all is_ascii_digit bs ≡ true →
     ((0 < length bs) × (digits_value 10 bs ≤ most) → ⊥) → read_up_to most bs ≡ None
 read_up_to-refused most [] digits never = refl
@@ -76,7 +70,7 @@ read_from_parse : {E : Type 0} (bs : List ℕ) (r : Result ℕ E) → ParsesUnsi
     list_all is_ascii_digit bs ≡ true → result_ok r ≡ read_up_to (2 ^ 64 - 1) bs
 read_from_parse {E} bs (Ok n) parsed digits =
     let p = parse_digits own {E = E} 64 bs (Ok n) parsed (sym (list_all-digits bs) ∙ digits) in
-    ap Some p.1 ∙ sym (read_up_to-yes _ bs (is_digits-yes bs digits p.0.0) (omega arith))
+    ap Some p.1 ∙ sym (read_up_to_from _ bs (is_digits-yes bs digits p.0.0) (omega arith))
 read_from_parse {E} bs (Err e) parsed digits =
     let refused = parse_digits own {E = E} 64 bs (Err e) parsed (sym (list_all-digits bs) ∙ digits) in
     sym (read_up_to-refused (2 ^ 64 - 1) bs digits (λ h. refused (h.0, omega arith)))
@@ -118,7 +112,7 @@ minus_from_parse : {E : Type 0} (b : ℕ) (bs : List ℕ) (r : Result ℤ E) →
     list_all is_ascii_digit bs ≡ true → result_ok r ≡ option_map (λ n. neg_ℤ (pos n)) (read_up_to (2 ^ 63) bs)
 minus_from_parse {E} b bs (Ok z) parsed minus digits =
     let p = parse_signed_minus own {E = E} w64 (b ∷ bs) (Ok z) parsed minus in
-    ap Some p.1 ∙ ap (option_map (λ n. neg_ℤ (pos n))) (sym (read_up_to-yes _ bs (is_digits-yes bs digits p.0.1) p.0.2))
+    ap Some p.1 ∙ ap (option_map (λ n. neg_ℤ (pos n))) (sym (read_up_to_from _ bs (is_digits-yes bs digits p.0.1) p.0.2))
 minus_from_parse {E} b bs (Err e) parsed minus digits =
     let refused = parse_signed_minus own {E = E} w64 (b ∷ bs) (Err e) parsed minus in
     ap (option_map (λ n. neg_ℤ (pos n)))
@@ -128,7 +122,7 @@ plain_from_parse : {E : Type 0} (bs : List ℕ) (r : Result ℤ E) → ParsesSig
     list_all is_ascii_digit bs ≡ true → result_ok r ≡ option_map pos (read_up_to (2 ^ 63 - 1) bs)
 plain_from_parse {E} bs (Ok z) parsed digits =
     let p = parse_signed_digits own {E = E} w64 bs (Ok z) parsed (sym (list_all-digits bs) ∙ digits) in
-    ap Some p.1 ∙ ap (option_map pos) (sym (read_up_to-yes _ bs (is_digits-yes bs digits p.0.0) (omega arith)))
+    ap Some p.1 ∙ ap (option_map pos) (sym (read_up_to_from _ bs (is_digits-yes bs digits p.0.0) (omega arith)))
 plain_from_parse {E} bs (Err e) parsed digits =
     let refused = parse_signed_digits own {E = E} w64 bs (Err e) parsed (sym (list_all-digits bs) ∙ digits) in
     ap (option_map pos) (sym (read_up_to-refused (2 ^ 63 - 1) bs digits (λ h. refused (h.0, omega arith))))

@@ -20,7 +20,7 @@ use Rattle.std.specs.Fmt.{digit_glyph}
 use Rattle.percent_encoding.specs.Percent.{percent_encode_byte}
 use Rattle.gob_bytes.specs.Escapes.{AreBytes, escaped, is_plain}
 use Rattle.gob_bytes.specs.Numbers.{number_read}
-use Rattle.gob_bytes.proofs.Forms.{one_form, escapes_apart, bytes_from_utf8}
+use Rattle.gob_bytes.proofs.Forms.{one_form, escapes_apart, bytes_from_utf8, own}
 use Rattle.gob_text.specs.Words.{is_break, EndsWord, HasNoBreak, IsWord, IsLine, IsName, GoesOnAtAll, Takes, TakesText}
 
 break_not : (b : ℕ) → is_break b ≡ true → not (is_break b) ≡ true → ⊥
@@ -117,9 +117,6 @@ no_break-digits [] h = refl
 no_break-digits (b ∷ bs) h =
     let parts = and_parts _ (all_ascii_digits bs) h in
     and_from _ _ (digit_not_break b (grind (arith, nat_tests))) (no_break-digits bs parts.1)
-
-own : IsNumeralModel (λ ds. all_ascii_digits ds ≡ true) (digits_value 10)
-own = numerals_by_value _ tells_all_ascii_digits
 
 no_break-decimal : (n : ℕ) → n < 2 ^ 64 → HasNoBreak (decimal n)
 no_break-decimal n small = no_break-digits (decimal n) (digits_decimal own n small)

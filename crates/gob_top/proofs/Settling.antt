@@ -26,6 +26,7 @@ use Rattle.gob_run.specs.declared.fault.RunFault.{RunFault}
 use Rattle.gob_run.specs.declared.fault.RunFault.TheVariants as fault
 use Rattle.gob_run.proofs.Entering.{settling_trail}
 use Rattle.gob_run.proofs.Readers.{readers_of_settling}
+use Rattle.gob_run.proofs.Settled.{settled_to, AllSettle}
 use Rattle.gob_top.specs.Answers.{Told, refused}
 use Rattle.gob_top.specs.Faults.{settle_refusal}
 use Rattle.gob_top.specs.Runs.{run_refusal}
@@ -81,19 +82,6 @@ only_settles job w old new before now way = record {
   below = way.below;
   source = record { supply = refl; faults = refl; planned = refl };
   goes_on = record { source = omega arith; planned = omega arith; volume = way.later };
-}
-
--- it settled to its end
-abbrev AllSettle : List ℕ → Files → List Files → Type 0
-AllSettle job m added = Becomes (Settles job) m added × EachFrom (ImagesSettleTheSame job) m added
-
-settled_to : (job : List ℕ) (d e : Disk) → Went (AllSettle job) d e → SettledTo job d e
-settled_to job d e w = record {
-  added = w.added;
-  trail = w.trail;
-  stands = w.stands;
-  alike = settle_alike job d.files w.added w.holds.1;
-  settles = subst (Settles job d.files) (sym w.stands) w.holds.0;
 }
 
 -- ---- recover

@@ -19,7 +19,7 @@ use Rattle.std.proofs.lemmas.Str.Parse.{IsNumeralModel, numerals_by_value, tells
 use Rattle.std.specs.declared.cmp.Ordering.TheVariants.{Less}
 use Rattle.gob_bytes.specs.Paths.{attempt_folder, begins_with, is_published, sequence_name, staging, under}
 use Rattle.gob_bytes.specs.Tables.{IsInByteOrder, name_cmp}
-use Rattle.gob_bytes.proofs.Forms.{bytes_from_utf8}
+use Rattle.gob_bytes.proofs.Forms.{bytes_from_utf8, own}
 use Rattle.gob_bytes.proofs.Tables.{less_apart, less_then, name_itself, rising_tail, two_names}
 use Rattle.gob_device.specs.Disk.{Disk}
 use Rattle.gob_device.specs.Supply.{Supply}
@@ -46,8 +46,9 @@ use Rattle.gob_ledger.specs.Units.{same_unit}
 use Rattle.gob_ledger.proofs.Members.{first_in, in_cases, in_flat_map, in_map, later_in, map_in, none_in}
 use Rattle.gob_recovery.specs.Sequence.{is_lasting, is_staged, move, names_in, step_fits}
 use Rattle.gob_history.specs.Laws.{moves_of}
-use Rattle.gob_history.proofs.Fronts.{published_unstaged, under_front}
-use Rattle.gob_stage.proofs.Folders.{attempts_apart, attempts_staged}
+use Rattle.gob_history.proofs.Fronts.{published_unstaged, under_front, made_in}
+use Rattle.gob_history.proofs.Left.{cancel_under}
+use Rattle.gob_stage.proofs.Folders.{attempts_apart, attempts_staged, folder_parts}
 use Rattle.gob_stage.proofs.Names.{front_more}
 use Rattle.gob_state.specs.Committed.{verdict_in}
 use Rattle.gob_task.specs.Finish.{IsStagedFor}
@@ -130,9 +131,6 @@ file_of rules u i supply disk (unit_result.Good n ws files) is p at =
       its = is.files.each found.0 found.1;
     }
 
-own : IsNumeralModel (λ ds. all_ascii_digits ds ≡ true) (digits_value 10)
-own = numerals_by_value _ tells_all_ascii_digits
-
 same_head : (x y : ℕ) (xs ys : List ℕ) → x ∷ xs ≡ y ∷ ys → x ≡ y
 same_head x y xs ys e = cc
 
@@ -144,11 +142,6 @@ no_word (d ∷ ds) rest more digits e =
     let digit : is_ascii_digit d ≡ true = (and_parts (is_ascii_digit d) (all_ascii_digits ds) digits).0 in
     let no : false ≡ true = ap is_ascii_digit (sym is) ∙ digit in cc
 
--- a folder and what is behind it, from the job's folder of staged files on
-folder_parts : (job : List ℕ) (unit attempt : ℕ) (more : List ℕ)
-    → attempt_folder job unit attempt ++ more ≡ staging job ++ (decimal unit ++ 45 ∷ (decimal attempt ++ 47 ∷ more))
-folder_parts job unit attempt more = simp append_assoc
-
 -- a staged file isn't in the folder of staged files itself
 not_top : (job name more : List ℕ) (i failures : ℕ) → i < 2 ^ 32
     → attempt_folder job i failures ++ name ≡ staging job ++ 115 ∷ more → ⊥
@@ -156,23 +149,6 @@ not_top job name more i failures small e =
     no_word (decimal i) (decimal failures ++ 47 ∷ name) more (digits_decimal own i (omega arith))
     (append_cancel_left (staging job) (decimal i ++ 45 ∷ (decimal failures ++ 47 ∷ name)) (115 ∷ more)
     (sym (folder_parts job i failures name) ∙ e))
-
-made_in : (job : List ℕ) (plan : Plan) (part : List ℕ) (lo hi : ℕ) (t : Target)
-    → is_published job (under job (target_name plan part lo hi t)) ≡ true
-unfolding target_name
-made_in job plan part lo hi (out b place) =
-    ap (λ v. cond v true (begins_with (under job (codes "err/")) (under job (target_name plan part lo hi
-    (out b place)))))
-    (under_front job (codes "out/") (target_name plan part lo hi (out b place)))
-made_in job plan part lo hi (err b place) =
-    ap (λ v. cond v true (begins_with (under job (codes "err/")) (under job (target_name plan part lo hi
-    (err b place)))))
-    (under_front job (codes "out/") (target_name plan part lo hi (err b place)))
-    ∙ under_front job (codes "err/") (target_name plan part lo hi (err b place))
-made_in job plan part lo hi bad =
-    ap (λ v. cond v true (begins_with (under job (codes "err/")) (under job (target_name plan part lo hi bad))))
-    (under_front job (codes "out/") (target_name plan part lo hi bad))
-    ∙ under_front job (codes "err/") (target_name plan part lo hi bad)
 
 sequence_unpublished : (job : List ℕ) → is_published job (sequence_name job) ≡ false
 sequence_unpublished job =
@@ -349,10 +325,6 @@ froms_of rules u i supply disk (unit_result.Good n ws files) is =
 
 -- ---- the names of all files
 
-same_path : (job x y : List ℕ) → under job x ≡ under job y → x ≡ y
-same_path [] x y e = cc
-same_path (b ∷ job) x y e = same_path job x y (let tail : under job x ≡ under job y = cc in tail)
-
 -- units as these can have turns
 record AreApart (rules : TurnRulesValue) (us : List WorkUnit) : Type 0 where
   once : IsDistinct same_unit us
@@ -384,7 +356,7 @@ tos_differ rules u v i j p q few proper proper_v ordered ordered_v apart f g e =
     let small = proper.small in
     let small_v = proper_v.small in
     let paths : name_in rules.plan u f.its.target ≡ name_in rules.plan v g.its.target =
-    same_path rules.job (name_in rules.plan u f.its.target) (name_in rules.plan v g.its.target)
+    cancel_under rules.job (name_in rules.plan u f.its.target) (name_in rules.plan v g.its.target)
     (sym f.its.published ∙ (ap (λ (x : List ℕ × List ℕ). x.1) f.is ∙ (e
     ∙ (sym (ap (λ (x : List ℕ × List ℕ). x.1) g.is) ∙ g.its.published)))) in
     let same = names_apart rules.plan rules.plan u.part v.part u.lo v.lo u.hi v.hi f.its.target g.its.target

@@ -8,6 +8,7 @@ use Rattle.gob_bytes.specs.Paths.{begins_with}
 use Rattle.gob_bytes.specs.Tables.{Table, name_cmp, at_name, names_of, IsInByteOrder}
 use Rattle.gob_bytes.proofs.Tables.{same_name, name_itself, less_then, rising_tail}
 use Rattle.gob_device.specs.Disk.{File, IsListing}
+use Rattle.gob_memory.proofs.Places.{rising_shorter}
 
 let_through : {X : Type 0} (p : X → Bool) (xs : List X) (n : X) → Contains (filter p xs) n → (p n ≡ true)
     × Contains xs n
@@ -54,16 +55,11 @@ there_named {X} (e ∷ es) n there = cases (bytes_eq n e.0) refl there (there_na
     cases true is there rest = (0, omega arith, sym (same_name n e.0 is))
     cases false is there rest = let later = rest there in (suc later.0, omega (arith, later.1), later.2)
 
-rising_past : (low x : List ℕ) (xs : List (List ℕ)) → name_cmp low x ≡ Less → IsInByteOrder (x ∷ xs)
-    → IsInByteOrder (low ∷ xs)
-rising_past low x [] below rising = tt
-rising_past low x (y ∷ ys) below rising = (less_then low x y below rising.0, rising.1)
-
 rising_under : (p : List ℕ → Bool) (low : List ℕ) (xs : List (List ℕ)) → IsInByteOrder (low ∷ xs)
     → IsInByteOrder (low ∷ filter p xs)
 rising_under p low [] rising = tt
 rising_under p low (x ∷ xs) rising = cases (p x) (rising_under p x xs rising.1)
-    (rising_under p low xs (rising_past low x xs rising.0 rising.1))
+    (rising_under p low xs (rising_shorter low x xs rising.0 rising.1))
   where
     cases : (b : Bool) → IsInByteOrder (x ∷ filter p xs) → IsInByteOrder (low ∷ filter p xs)
         → IsInByteOrder (low ∷ cond b (x ∷ filter p xs) (filter p xs))
