@@ -110,7 +110,7 @@ impl Branch {
     }
 
     /// Adds what the branch makes of a row to the items of its line. After an error they are as they were. A row that a
-    /// policy kills has no record.
+    /// policy kills has no record. The row is copied only where the branch has steps.
     pub fn push(
         &self,
         alloc: Global,
@@ -130,7 +130,32 @@ impl Branch {
             self.push_made(scratch, row, items)?;
             return Ok(());
         }
-        let rows = self.chain.rows_of_lent(alloc, row)?;
+        let copy = row.copy()?;
+        self.push_owned(alloc, scratch, copy, items)?;
+        Ok(())
+    }
+
+    /// As `push`, for a row that is given: nothing of it is copied for the steps.
+    pub fn push_owned(
+        &self,
+        alloc: Global,
+        scratch: &mut RowScratch,
+        row: Row,
+        items: &mut LineItems,
+    ) -> Result<(), ConvertFault>
+        requires { conforms self.now.columns row ≡ true }
+        ensures ok { OnOk result
+            (concatenation (Some items.old) (made_in_branch self.now.spec self.now.number self.now.columns row)
+            ≡ Some items.new) }
+        ensures bad { IfErr result (λ e. e ≡ Fault.Bad
+            → made_in_branch self.now.spec self.now.number self.now.columns row ≡ None) }
+        ensures err { OnErr result (items.new ≡ items.old) }
+    {
+        if self.chain.is_empty() {
+            self.push_made(scratch, &row, items)?;
+            return Ok(());
+        }
+        let rows = self.chain.rows_of(alloc, row)?;
         self.push_each(scratch, rows.as_slice(), items)?;
         Ok(())
     }

@@ -83,17 +83,4 @@ impl Chain {
         let rows = self.steps.convert(alloc, row)?;
         Ok(rows)
     }
-
-    /// The rows that the steps make of a row that is lent, and copied for them.
-    pub fn rows_of_lent(&self, alloc: Global, row: &Row) -> Result<Vec<Row>, ConvertFault>
-        requires { conforms self.now.before row.now ≡ true }
-        ensures ok { IfOk result (λ v. chain_rows self.now.steps self.now.before row.now ≡ Some v.items) }
-        ensures conform { IfOk result (λ v. list_all (conforms (after_chain self.now)) v.items ≡ true) }
-        ensures bad { IfErr result (λ e. e ≡ Fault.Bad
-            → chain_rows self.now.steps self.now.before row.now ≡ None) }
-    {
-        let copy = row.copy()?;
-        let rows = self.rows_of(alloc, copy)?;
-        Ok(rows)
-    }
 }
