@@ -1,9 +1,8 @@
 -- What is made of the rows of a list, one after the other.
-use Rattle.std.proofs.Common.{◌≡◌, ℕ, zero, suc, ◌+◌, ◌<◌, ◌≤◌, Bool, true, List, [], ◌∷◌, ◌++◌, length, get_or, take}
+use Rattle.std.proofs.Common.{◌≡◌, ℕ, zero, suc, ◌+◌, ◌<◌, Bool, true, List, [], ◌∷◌, ◌++◌, length, get_or, take}
 use Rattle.std.proofs.Common.{drop}
 use Rattle.std.proofs.Common.{None, Some, refl, sym, ap, ◌∙◌, arith, add-one, append_assoc, append-nil}
 use Rattle.std.proofs.lemmas.Bool.{and_parts}
-use Rattle.std.proofs.lemmas.List.{drop_all}
 use Rattle.std.proofs.Math.Seq.{drop-cons, take-append_seam}
 use Rattle.std.specs.List.{list_all}
 use Rattle.gob_convert.specs.Made.{Made, concatenation, made_each, all_made}
@@ -23,23 +22,16 @@ made_on f xs i x now next whole lt is so_far made =
     ∙ joined-assoc (Some now) (f x) (made_each f (drop (i + 1) xs))
     ∙ ap (λ l. concatenation (Some now) (made_each f l)) (sym (goes_on xs i x lt is)) ∙ so_far
 
-bad_of_joined : {B : Type 0} (old : List B) (m : Made B) → None ≡ concatenation (Some old) m → m ≡ None
+-- what is made of the next one, behind what was made of those before it
+pub made_next : {A B : Type 0} (f : A → Made B) (xs : List A) (i : ℕ) (x : A) (m : Made B) → i < length xs
+    → x ≡ get_or xs i x
+    → concatenation (concatenation m (f x)) (made_each f (drop (i + 1) xs)) ≡ concatenation m (made_each f (drop i xs))
+made_next f xs i x m lt is = joined-assoc m (f x) (made_each f (drop (i + 1) xs))
+    ∙ ap (λ l. concatenation m (made_each f l)) (sym (goes_on xs i x lt is))
+
+pub bad_of_joined : {B : Type 0} (old : List B) (m : Made B) → None ≡ concatenation (Some old) m → m ≡ None
 bad_of_joined old None e = refl
 bad_of_joined old (Some ys) e = absurd (cc)
-
--- the next one is bad, and so is the whole
-pub made_bad : {A B : Type 0} (f : A → Made B) (xs : List A) (i : ℕ) (x : A) (now old : List B) (whole : Made B)
-    → i < length xs → x ≡ get_or xs i x
-    → concatenation (Some now) (made_each f (drop i xs)) ≡ concatenation (Some old) whole → f x ≡ None → whole ≡ None
-made_bad f xs i x now old whole lt is so_far bad = bad_of_joined old whole
-    (sym (ap (λ m. concatenation (Some now) (concatenation m (made_each f (drop (i + 1) xs)))) bad)
-    ∙ ap (λ l. concatenation (Some now) (made_each f l)) (sym (goes_on xs i x lt is)) ∙ so_far)
-
--- all were made
-pub made_all : {A B : Type 0} (f : A → Made B) (xs : List A) (i : ℕ) (now : List B) (whole : Made B) → length xs ≤ i
-    → concatenation (Some now) (made_each f (drop i xs)) ≡ whole → whole ≡ Some now
-made_all f xs i now whole over so_far = sym so_far
-    ∙ ap (λ l. concatenation (Some now) (made_each f l)) (drop_all i xs over) ∙ ap Some (append-nil now)
 
 -- ---- what was there before
 

@@ -1,20 +1,22 @@
 -- Rows over the branches of a plan, one after the other.
-use Rattle.std.proofs.Common.{◌≡◌, ℕ, zero, suc, ◌+◌, ◌<◌, Bool, false, ◌||◌, List, [], ◌∷◌, ◌++◌, length, get_or, take}
-use Rattle.std.proofs.Common.{Some, None, refl, sym, ap, ap₂, subst, ◌∙◌, arith, ◌≤◌}
-use Rattle.std.proofs.lemmas.List.{length-map, take_all}
+use Rattle.std.proofs.Common.{◌≡◌, ℕ, zero, suc, ◌+◌, ◌<◌, Bool, true, false, if◌then◌else◌, ◌||◌, List, [], ◌∷◌, ◌++◌, length, get_or, take, drop}
+use Rattle.std.proofs.Common.{Option, Some, None, append-nil, refl, sym, ap, ap₂, subst, ◌∙◌, arith, ◌≤◌}
+use Rattle.std.proofs.lemmas.List.{drop_all, length-map, take_all}
 use Rattle.std.proofs.Math.Seq.{take-suc}
 use Rattle.std.specs.List.{enumerate_from, list_any}
+use Rattle.std.specs.Option.{is_some}
 use Rattle.gob_plan.specs.declared.plan.BranchSpec.{BranchSpec}
 use Rattle.gob_plan.specs.declared.rows.Column.{Column}
 use Rattle.gob_branch.specs.Branches.{BranchValue}
 use Rattle.std.proofs.lemmas.List.Folds.{list_any_more}
 use Rattle.std.proofs.lemmas.List.FromFn.{length-enumerate_from}
 use Rattle.gob_plan.specs.declared.rows.Row.{Row}
-use Rattle.gob_convert.specs.Made.{concatenation, made_each}
-use Rattle.gob_meaning.specs.Items.{RowMade}
-use Rattle.gob_branch.proofs.Joined.{made_all, made_bad, made_on}
+use Rattle.gob_plan.specs.Rows.{conforms}
+use Rattle.gob_convert.specs.Made.{Made, concatenation, made_each}
+use Rattle.gob_meaning.specs.Items.{RowMade, made_in_branch}
+use Rattle.gob_branch.proofs.Joined.{bad_of_joined, made_next}
 use Rattle.gob_pipeline.specs.Routes.{AreBranches, RoutesValue, RowSent, branch_makes, is_routed, is_taken, route_makes}
-use Rattle.gob_pipeline.specs.Routes.{specs_of}
+use Rattle.gob_pipeline.specs.Routes.{specs_of, waiting_makes}
 
 -- the branch at a place: its number and its columns, and how its spec stands among the numbered specs
 pub record BranchAt (columns : List Column) (n : ℕ) (bs : List BranchValue) (i : ℕ) (b : BranchValue) : Type 0 where
@@ -43,40 +45,95 @@ branch_at columns n (c ∷ cs) (suc i) b are lt is =
 
 -- ---- a row that is sent
 
--- to the first of the branches, and to the next one
-pub sent_first : (r : RoutesValue) (row : Row) (old : List RowMade) → RowSent r row old old 0 false
-sent_first r row old = record { made = refl; routed_is = refl }
+-- to none so far
+pub sent_first : (r : RoutesValue) (row : Row) (old : List RowMade) → RowSent r row old old None 0
+sent_first r row old = record {
+  taking = refl;
+  made = ap (λ l. concatenation (Some l) (route_makes r row)) (append-nil old);
+  routed_is = refl;
+}
 
-pub sent_more : (r : RoutesValue) (row : Row) (old now next : List RowMade) (bs : List BranchValue) (i : ℕ)
-    (b : BranchValue) (routed takes : Bool) → RowSent r row old now i routed → AreBranches r.columns 0 bs
-    → specs_of bs ≡ r.branches → i < length bs → b ≡ get_or bs i b
-    → concatenation (Some now) (branch_makes r row (b.number, b.spec)) ≡ Some next
-    → takes ≡ is_taken r row (b.number, b.spec) → RowSent r row old next (i + 1) (routed || takes)
-sent_more r row old now next bs i b routed takes so are specs lt is made taken =
+-- how a branch stands among the numbered specs of its routes
+record Stands (r : RoutesValue) (i : ℕ) (b : BranchValue) : Type 0 where
+  columns_are : b.columns ≡ r.columns
+  entry : (b.number, b.spec) ≡ get_or (enumerate_from 0 r.branches) i (b.number, b.spec)
+  within : i < length (enumerate_from 0 r.branches)
+
+stands : (r : RoutesValue) (bs : List BranchValue) (i : ℕ) (b : BranchValue) → AreBranches r.columns 0 bs
+    → specs_of bs ≡ r.branches → i < length bs → b ≡ get_or bs i b → Stands r i b
+stands r bs i b are specs lt is =
     let at = branch_at r.columns 0 bs i b are lt is in
-    let xs = enumerate_from 0 r.branches in
-    let within : i < length xs = subst (λ l. i < length (enumerate_from 0 l)) specs at.within in
-    let entry : (b.number, b.spec) ≡ get_or xs i (b.number, b.spec) =
-    subst (λ l. (b.number, b.spec) ≡ get_or (enumerate_from 0 l) i (b.number, b.spec)) specs at.entry in
     record {
-      made = made_on (branch_makes r row) xs i (b.number, b.spec) now next
-          (concatenation (Some old) (route_makes r row))
-          within entry so.made made;
-      routed_is = ap₂ (λ x y. x || y) so.routed_is (taken ∙ ap (is_taken r row) entry)
-          ∙ sym (list_any_more (is_taken r row) xs i (b.number, b.spec) within);
+      columns_are = at.columns_are;
+      entry = subst (λ l. (b.number, b.spec) ≡ get_or (enumerate_from 0 l) i (b.number, b.spec)) specs at.entry;
+      within = subst (λ l. i < length (enumerate_from 0 l)) specs at.within;
     }
 
-pub sent_bad : (r : RoutesValue) (row : Row) (old now : List RowMade) (bs : List BranchValue) (i : ℕ)
-    (b : BranchValue) (routed : Bool) → RowSent r row old now i routed → AreBranches r.columns 0 bs
-    → specs_of bs ≡ r.branches → i < length bs → b ≡ get_or bs i b
-    → branch_makes r row (b.number, b.spec) ≡ None → route_makes r row ≡ None
-sent_bad r row old now bs i b routed so are specs lt is bad =
-    let at = branch_at r.columns 0 bs i b are lt is in
+nothing_more : {A : Type 0} (m : Made A) → concatenation m (Some []) ≡ m
+nothing_more None = refl
+nothing_more (Some xs) = ap Some (append-nil xs)
+
+-- a branch that doesn't take it makes nothing
+pub sent_past : (r : RoutesValue) (row : Row) (old now : List RowMade) (bs : List BranchValue)
+    (waiting : Option BranchValue) (i : ℕ) (b : BranchValue) → RowSent r row old now waiting i
+    → AreBranches r.columns 0 bs → specs_of bs ≡ r.branches → i < length bs → b ≡ get_or bs i b
+    → is_taken r row (b.number, b.spec) ≡ false → RowSent r row old now waiting (i + 1)
+sent_past r row old now bs waiting i b so are specs lt is not =
+    let at = stands r bs i b are specs lt is in
+    let f = branch_makes r row in
     let xs = enumerate_from 0 r.branches in
-    let within : i < length xs = subst (λ l. i < length (enumerate_from 0 l)) specs at.within in
-    let entry : (b.number, b.spec) ≡ get_or xs i (b.number, b.spec) =
-    subst (λ l. (b.number, b.spec) ≡ get_or (enumerate_from 0 l) i (b.number, b.spec)) specs at.entry in
-    made_bad (branch_makes r row) xs i (b.number, b.spec) now old (route_makes r row) within entry so.made bad
+    let x : ℕ × BranchSpec = (b.number, b.spec) in
+    let m = concatenation (Some now) (waiting_makes waiting row) in
+    let nothing : f x ≡ Some [] =
+    ap (λ t. if t then made_in_branch b.spec b.number r.columns row else Some []) not in
+    record {
+      taking = so.taking;
+      made = ap (λ n. concatenation n (made_each f (drop (i + 1) xs)))
+          (sym (ap (concatenation m) nothing ∙ nothing_more m))
+          ∙ made_next f xs i x m at.within at.entry ∙ so.made;
+      routed_is = so.routed_is ∙ or_false (list_any (is_taken r row) (take i xs))
+          ∙ ap (λ t. list_any (is_taken r row) (take i xs) || t) (sym not ∙ ap (is_taken r row) at.entry)
+          ∙ sym (list_any_more (is_taken r row) xs i x at.within);
+    }
+  where
+    or_false : (t : Bool) → t ≡ (t || false)
+    or_false true = refl
+    or_false false = refl
+
+-- a branch that takes it waits, and the one that waited got it
+pub sent_more : (r : RoutesValue) (row : Row) (old now next : List RowMade) (bs : List BranchValue)
+    (waiting : Option BranchValue) (i : ℕ) (b : BranchValue) → RowSent r row old now waiting i
+    → AreBranches r.columns 0 bs → specs_of bs ≡ r.branches → i < length bs → b ≡ get_or bs i b
+    → conforms r.columns row ≡ true → is_taken r row (b.number, b.spec) ≡ true
+    → concatenation (Some now) (waiting_makes waiting row) ≡ Some next → RowSent r row old next (Some b) (i + 1)
+sent_more r row old now next bs waiting i b so are specs lt is fits takes made =
+    let at = stands r bs i b are specs lt is in
+    let f = branch_makes r row in
+    let xs = enumerate_from 0 r.branches in
+    let x : ℕ × BranchSpec = (b.number, b.spec) in
+    let m = concatenation (Some now) (waiting_makes waiting row) in
+    let makes : waiting_makes (Some b) row ≡ f x =
+    ap (λ cs. made_in_branch b.spec b.number cs row) at.columns_are
+    ∙ ap (λ t. if t then made_in_branch b.spec b.number r.columns row else Some []) (sym takes) in
+    record {
+      taking = ap (λ cs. conforms cs row) at.columns_are ∙ fits;
+      made = ap₂ (λ n o. concatenation (concatenation n o) (made_each f (drop (i + 1) xs))) (sym made) makes
+          ∙ made_next f xs i x m at.within at.entry ∙ so.made;
+      routed_is = true_or (list_any (is_taken r row) (take i xs))
+          ∙ ap (λ t. list_any (is_taken r row) (take i xs) || t) (sym takes ∙ ap (is_taken r row) at.entry)
+          ∙ sym (list_any_more (is_taken r row) xs i x at.within);
+    }
+  where
+    true_or : (t : Bool) → true ≡ (t || true)
+    true_or true = refl
+    true_or false = refl
+
+-- the one that waits can make nothing of it
+pub sent_bad : (r : RoutesValue) (row : Row) (old now : List RowMade) (waiting : Option BranchValue) (i : ℕ)
+    → RowSent r row old now waiting i → waiting_makes waiting row ≡ None → route_makes r row ≡ None
+sent_bad r row old now waiting i so bad = bad_of_joined old (route_makes r row)
+    (sym (ap (λ m. concatenation (concatenation (Some now) m)
+    (made_each (branch_makes r row) (drop i (enumerate_from 0 r.branches)))) bad) ∙ so.made)
 
 numbered : (bs : List BranchValue) (i : ℕ) → length bs ≤ i → length (enumerate_from 0 (specs_of bs)) ≤ i
 numbered bs i over =
@@ -84,16 +141,21 @@ numbered bs i over =
     let b = length-map bs (λ (x : BranchValue). x.spec) in
     omega (arith, a, b, over)
 
-pub sent_all : (r : RoutesValue) (row : Row) (old now : List RowMade) (bs : List BranchValue) (i : ℕ) (routed : Bool)
-    → RowSent r row old now i routed → specs_of bs ≡ r.branches → length bs ≤ i
-    → concatenation (Some old) (route_makes r row) ≡ Some now
-sent_all r row old now bs i routed so specs over =
-    made_all (branch_makes r row) (enumerate_from 0 r.branches) i now (concatenation (Some old) (route_makes r row))
-    (subst (λ l. length (enumerate_from 0 l) ≤ i) specs (numbered bs i over)) so.made
+-- no branch is left
+pub sent_all : (r : RoutesValue) (row : Row) (old now : List RowMade) (bs : List BranchValue)
+    (waiting : Option BranchValue) (i : ℕ) → RowSent r row old now waiting i → specs_of bs ≡ r.branches
+    → length bs ≤ i
+    → concatenation (Some old) (route_makes r row) ≡ concatenation (Some now) (waiting_makes waiting row)
+sent_all r row old now bs waiting i so specs over =
+    let m = concatenation (Some now) (waiting_makes waiting row) in
+    sym so.made ∙ ap (λ l. concatenation m (made_each (branch_makes r row) l))
+    (drop_all i (enumerate_from 0 r.branches)
+    (subst (λ l. length (enumerate_from 0 l) ≤ i) specs (numbered bs i over))) ∙ nothing_more m
 
-pub routed_all : (r : RoutesValue) (row : Row) (old now : List RowMade) (bs : List BranchValue) (i : ℕ) (routed : Bool)
-    → RowSent r row old now i routed → specs_of bs ≡ r.branches → length bs ≤ i → routed ≡ is_routed r row
-routed_all r row old now bs i routed so specs over =
+pub routed_all : (r : RoutesValue) (row : Row) (old now : List RowMade) (bs : List BranchValue)
+    (waiting : Option BranchValue) (i : ℕ) → RowSent r row old now waiting i → specs_of bs ≡ r.branches
+    → length bs ≤ i → is_some waiting ≡ is_routed r row
+routed_all r row old now bs waiting i so specs over =
     so.routed_is ∙ ap (list_any (is_taken r row)) (take_all i (enumerate_from 0 r.branches)
     (subst (λ l. length (enumerate_from 0 l) ≤ i) specs (numbered bs i over)))
 

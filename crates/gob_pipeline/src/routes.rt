@@ -1,12 +1,13 @@
 //! The branches of a plan, and the fork before them.
-ghost use Rattle.std.specs.Prelude.{◌≡◌, ◌<◌, ◌≤◌, ℕ, true, None, Some, length, IfErr, IfOk, OnErr};
+ghost use Rattle.std.specs.Prelude.{◌≡◌, ◌<◌, ◌≤◌, ℕ, true, None, Some, length, option_copied, IfErr, IfOk, OnOk};
 ghost use Rattle.std.specs.List.{list_all};
 ghost use Rattle.gob_plan.specs.Rows.{conforms};
 ghost use Rattle.gob_plan.specs.Tests.{test_fits};
 ghost use Rattle.gob_convert.specs.Made.{concatenation};
 ghost use Rattle.gob_convert.specs.declared.convert.ConvertFault.{ConvertFault as Fault};
 ghost use Rattle.gob_meaning.specs.Plans.{branch_fits, branch_is_short};
-ghost use Rattle.gob_pipeline.specs.Routes.{AreBranches, branch_makes, is_routed, is_taken, route_makes, specs_of};
+ghost use Rattle.gob_pipeline.specs.Routes.{AreBranches, is_routed, is_taken, is_taking, route_makes, specs_of};
+ghost use Rattle.gob_pipeline.specs.Routes.{waiting_makes};
 
 use gob_branch::{Branch, LineItems, RowScratch};
 use gob_convert::ConvertFault;
@@ -73,40 +74,49 @@ impl Routes {
         ensures routed { IfOk result (λ routed. routed ≡ is_routed self.now row) }
         ensures bad { IfErr result (λ e. e ≡ Fault.Bad → route_makes self.now row ≡ None) }
     {
-        let mut routed = false;
+        // The last branch that takes the row waits, so that the row itself can be given to it.
+        let mut waiting: Option<&Branch> = None;
         for branch in self.branches.as_slice() {
-            match self.push_to(alloc, scratch, &row, branch, items) {
-                Ok(takes) => routed |= takes,
-                Err(fault) => return Err(fault),
+            if self.takes(&row, branch) {
+                push_lent(waiting, alloc, scratch, &row, items)?;
+                waiting = Some(branch);
             }
         }
-        Ok(routed)
+        match waiting {
+            Some(last) => {
+                last.push_owned(alloc, scratch, row, items)?;
+                Ok(true)
+            }
+            None => Ok(false),
+        }
     }
 
-    // Sends the row to a branch, where that takes it, and tells whether it does.
-    fn push_to(
-        &self,
-        alloc: Global,
-        scratch: &mut RowScratch,
-        row: &Row,
-        branch: &Branch,
-        items: &mut LineItems,
-    ) -> Result<bool, ConvertFault>
-        requires conforms { conforms self.now.columns row.now ≡ true }
-        requires columns { branch.now.columns ≡ self.now.columns }
-        ensures ok { IfOk result (λ _. concatenation (Some items.old)
-            (branch_makes self.now row.now (branch.now.number, branch.now.spec)) ≡ Some items.new) }
-        ensures taken { IfOk result (λ takes. takes ≡ is_taken self.now row.now (branch.now.number, branch.now.spec)) }
-        ensures bad { IfErr result (λ e. e ≡ Fault.Bad
-            → branch_makes self.now row.now (branch.now.number, branch.now.spec) ≡ None) }
-        ensures err { OnErr result (items.new ≡ items.old) }
+    // The branch takes the row.
+    fn takes(&self, row: &Row, branch: &Branch) -> bool
+        requires { conforms self.now.columns row.now ≡ true }
+        ensures { result ≡ is_taken self.now row.now (branch.now.number, branch.now.spec) }
     {
-        if !picks(&self.fork, &self.columns, row, branch.number()) {
-            return Ok(false);
-        }
-        branch.push(alloc, scratch, row, items)?;
-        Ok(true)
+        picks(&self.fork, &self.columns, row, branch.number())
     }
+}
+
+// Sends the row to the branch that waits for it, where there is one.
+fn push_lent(
+    waiting: Option<&Branch>,
+    alloc: Global,
+    scratch: &mut RowScratch,
+    row: &Row,
+    items: &mut LineItems,
+) -> Result<(), ConvertFault>
+    requires { is_taking (option_copied waiting) row.now ≡ true }
+    ensures ok { OnOk result
+        (concatenation (Some items.old) (waiting_makes (option_copied waiting.entry) row.now) ≡ Some items.new) }
+    ensures bad { IfErr result (λ e. e ≡ Fault.Bad → waiting_makes (option_copied waiting.entry) row.now ≡ None) }
+{
+    if let Some(branch) = waiting {
+        branch.push(alloc, scratch, row, items)?;
+    }
+    Ok(())
 }
 
 // A branch for each spec, numbered in order.

@@ -1,4 +1,4 @@
-use Rattle.std.proofs.Common.{◌≡◌, [], None, Some, rules, sym, ap, ◌∙◌, subst}
+use Rattle.std.proofs.Common.{◌≡◌, [], None, Some, rules, ap, ◌∙◌, subst}
 use Rattle.gob_convert.specs.Made.{concatenation}
 use Rattle.gob_convert.specs.declared.convert.ConvertFault.TheVariants.{Bad}
 use Rattle.gob_meaning.specs.Items.{made_in_branch}
