@@ -2,7 +2,9 @@
 #![tactic(auto)]
 
 mod fork;
+mod placed;
 mod plain;
 
 pub use fork::picks;
+pub use placed::picks_at;
 pub use plain::Plain;
