@@ -1,6 +1,6 @@
 -- Rows in a branch: their folders, their ends and their items.
 use Rattle.std.proofs.Common.{◌≡◌, ℕ, true, false, ◌&&◌, nat_le, List, [], length, get_or, Option}
-use Rattle.std.proofs.Common.{None, Some, refl, sym, ap, ◌∙◌, subst}
+use Rattle.std.proofs.Common.{None, Some, refl, sym, ap, ap₂, ◌∙◌, subst}
 use Rattle.std.proofs.lemmas.Bool.{and_parts}
 use Rattle.std.specs.Option.{is_none}
 use Rattle.gob_convert.specs.Made.{Made, concatenation, then_each}
@@ -12,6 +12,7 @@ use Rattle.gob_plan.specs.declared.plan.PlaceSpec.TheVariants as place
 use Rattle.gob_plan.specs.declared.plan.BranchSpec.{BranchSpec}
 use Rattle.gob_plan.specs.Columns.{position_of}
 use Rattle.gob_plan.specs.Rows.{conforms, kind_of}
+use Rattle.gob_rowcheck.specs.Places.{columns_judged, stand_at}
 use Rattle.gob_rowcheck.proofs.Places.{told_place, told_none, value_at}
 use Rattle.gob_meaning.specs.Days.{day_folder}
 use Rattle.gob_meaning.specs.Fork.{place_of}
@@ -92,26 +93,39 @@ through_steps spec b columns row m rows =
 
 -- ---- a branch that is set up
 
-pub branch_is : (spec f : BranchSpec) (columns after : List Column) (chain : ChainValue) (day : Option Day)
-    (written_columns : List Column) → f ≡ spec → chain ≡ record { steps = f.steps; before = columns }
-    → after ≡ after_chain chain → branch_fits columns spec ≡ true → branch_is_short spec ≡ true
-    → Places f.place after day → written_columns ≡ after_chain chain
-    → (list_all (λ p. test_fits p.test (after_chain chain)) f.policies ≡ true)
-    × (nat_le (length f.policies) max_policies ≡ true)
-    × Places f.place (after_chain chain) day × (written_columns ≡ after_chain chain)
-branch_is spec f columns after chain day written_columns same chain_is after_is fits short places writes =
-    let here : after_chain chain ≡ columns_through f.steps columns = ap after_chain chain_is in
+-- its policies are of the columns behind its steps
+pub policies_fit : (spec f : BranchSpec) (columns after : List Column) (chain : ChainValue) (policies : List PolicySpec)
+    → f ≡ spec → chain ≡ record { steps = f.steps; before = columns } → after ≡ after_chain chain
+    → policies ≡ f.policies → branch_fits columns spec ≡ true
+    → list_all (λ p. test_fits p.test after) policies ≡ true
+policies_fit spec f columns after chain policies same chain_is after_is are fits =
     let fits_here : branch_fits columns f ≡ true = ap (branch_fits columns) same ∙ fits in
-    let short_here : branch_is_short f ≡ true = ap branch_is_short same ∙ short in
     let behind = columns_through f.steps columns in
     let three = and_parts (is_none (first_refused f.steps columns)
     && list_all (λ (p : PolicySpec). test_fits p.test behind) f.policies && writes_columns f.format behind) _ fits_here
     in
     let two = and_parts (is_none (first_refused f.steps columns)
     && list_all (λ (p : PolicySpec). test_fits p.test behind) f.policies) _ three.0 in
-    let one = and_parts (is_none (first_refused f.steps columns)) _ two.0 in (
-      ap (λ cs. list_all (λ (p : PolicySpec). test_fits p.test cs) f.policies) here ∙ one.1,
+    ap₂ (λ cs ps. list_all (λ (p : PolicySpec). test_fits p.test cs) ps) (after_is ∙ ap after_chain chain_is) are
+    ∙ (and_parts (is_none (first_refused f.steps columns)) _ two.0).1
+
+pub branch_is : (spec f : BranchSpec) (columns after : List Column) (chain : ChainValue) (day : Option Day)
+    (written_columns judged : List Column) (policies : List PolicySpec) (stand_where : List ℕ) → f ≡ spec
+    → chain ≡ record { steps = f.steps; before = columns }
+    → after ≡ after_chain chain → branch_fits columns spec ≡ true → branch_is_short spec ≡ true
+    → Places f.place after day → written_columns ≡ after_chain chain
+    → judged ≡ after_chain chain → policies ≡ f.policies
+    → stand_at (columns_judged policies) judged stand_where ≡ true
+    → (list_all (λ p. test_fits p.test (after_chain chain)) f.policies ≡ true)
+    × (nat_le (length f.policies) max_policies ≡ true)
+    × Places f.place (after_chain chain) day × (written_columns ≡ after_chain chain)
+    × (stand_at (columns_judged f.policies) (after_chain chain) stand_where ≡ true)
+branch_is spec f columns after chain day written_columns judged policies stand_where same chain_is after_is fits short
+    places writes judged_is are stand =
+    let short_here : branch_is_short f ≡ true = ap branch_is_short same ∙ short in (
+      policies_fit spec f columns (after_chain chain) chain f.policies same chain_is refl refl fits,
       (and_parts (nat_le (length f.steps) max_steps) _ short_here).1,
       subst (λ cs. Places f.place cs day) after_is places,
       writes,
+      ap₂ (λ cs ps. stand_at (columns_judged ps) cs stand_where) (sym judged_is) (sym are) ∙ stand,
     )

@@ -16,7 +16,7 @@ use crate::placing::{placing, write_place};
 use gob_convert::ConvertFault;
 use gob_formats::RowEncoder;
 use gob_plan::{BranchSpec, Columns, List, NoMemory, PlaceSpec, PolicySpec, Row};
-use gob_rowcheck::{RowEnd, judge_row};
+use gob_rowcheck::{RowEnd, judge_row_at, policy_places};
 use gob_timeplace::Day;
 use std::alloc::Global;
 use std::marker::Model;
@@ -44,6 +44,8 @@ pub struct Branch {
     number: u32,
     chain: Chain,
     policies: List<PolicySpec>,
+    // Where the policies' columns stand behind the steps.
+    places: Vec<usize>,
     place: PlaceSpec,
     day: Option<Day>,
     encoder: RowEncoder,
@@ -54,6 +56,7 @@ impl Model for Branch {
     ghost use Rattle.std.specs.List.{list_all};
     ghost use Rattle.gob_plan.specs.Tests.{test_fits};
     ghost use Rattle.gob_meaning.specs.Plans.{max_policies};
+    ghost use Rattle.gob_rowcheck.specs.Places.{columns_judged, stand_at};
     ghost use Rattle.gob_branch.specs.Branches.{BranchValue, Places, after_chain};
 
     ghost Value = { BranchValue };
@@ -67,7 +70,8 @@ impl Model for Branch {
     ghost invariant = { λ b. (list_all (λ p. test_fits p.test (after_chain b.chain)) b.policies ≡ true)
         × (nat_le (length b.policies) max_policies ≡ true)
         × Places b.place (after_chain b.chain) b.day
-        × (b.encoder.columns ≡ after_chain b.chain) };
+        × (b.encoder.columns ≡ after_chain b.chain)
+        × (stand_at (columns_judged b.policies) (after_chain b.chain) b.places.items ≡ true) };
 }
 
 impl Branch {
@@ -89,12 +93,14 @@ impl Branch {
             place,
         } = spec.copy()?;
         let chain = Chain::new(alloc, steps, columns)?;
+        let places = policy_places(alloc, policies.as_slice(), chain.after())?;
         let day = placing(&place, chain.after());
         match RowEncoder::new(alloc, format, chain.after()) {
             Ok(encoder) => Ok(Branch {
                 number,
                 chain,
                 policies,
+                places,
                 place,
                 day,
                 encoder,
@@ -196,7 +202,12 @@ impl Branch {
         ensures bad { IfErr result (λ e. e ≡ Fault.Bad → made_of_row self.now row.now ≡ None) }
         ensures err { OnErr result (items.new ≡ items.old) }
     {
-        let verdict = judge_row(self.policies.as_slice(), self.chain.after(), row);
+        let verdict = judge_row_at(
+            self.policies.as_slice(),
+            self.places.as_slice(),
+            self.chain.after(),
+            row,
+        );
         write_place(self.day, row, &mut scratch.place)?;
         let end = end_made(&self.encoder, row, verdict.end, &mut scratch.record)?;
         items.push(Item {
