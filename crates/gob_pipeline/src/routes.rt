@@ -11,8 +11,9 @@ ghost use Rattle.gob_pipeline.specs.Routes.{waiting_makes};
 
 use gob_branch::{Branch, LineItems, RowScratch};
 use gob_convert::ConvertFault;
-use gob_fork::picks;
+use gob_fork::picks_at;
 use gob_plan::{BranchSpec, Columns, ForkSpec, NoMemory, Row};
+use gob_rowcheck::test_places;
 use std::alloc::Global;
 use std::marker::Model;
 
@@ -20,6 +21,8 @@ use std::marker::Model;
 #[derive(Drop)]
 pub struct Routes {
     fork: ForkSpec,
+    // Where the columns of the fork's tests stand.
+    places: Vec<usize>,
     columns: Columns,
     branches: Vec<Branch>,
 }
@@ -28,6 +31,7 @@ impl Model for Routes {
     ghost use Rattle.std.specs.Prelude.{◌≡◌, ◌<◌, ◌^◌, true, length};
     ghost use Rattle.std.specs.List.{list_all};
     ghost use Rattle.gob_plan.specs.Tests.{test_fits};
+    ghost use Rattle.gob_rowcheck.specs.Places.{columns_tested, stand_at};
     ghost use Rattle.gob_pipeline.specs.Routes.{RoutesValue, AreBranches, specs_of};
 
     ghost Value = { RoutesValue };
@@ -36,7 +40,8 @@ impl Model for Routes {
 
     ghost invariant = { λ r. AreBranches r.columns 0 r.branches.items
         × (length r.branches.items < 2 ^ 32)
-        × (list_all (λ t. test_fits t r.columns) r.fork.tests ≡ true) };
+        × (list_all (λ t. test_fits t r.columns) r.fork.tests ≡ true)
+        × (stand_at (columns_tested r.fork.tests) r.columns r.places.items ≡ true) };
 }
 
 impl Routes {
@@ -54,8 +59,10 @@ impl Routes {
         ensures { IfOk result (λ r. r ≡ record { fork = fork.now; columns = columns.now; branches = specs.now }) }
     {
         let branches = branches_of(alloc, columns, specs)?;
+        let places = test_places(alloc, fork.tests.as_slice(), columns)?;
         Ok(Routes {
             fork: fork.copy()?,
+            places,
             columns: columns.copy()?,
             branches,
         })
@@ -96,7 +103,13 @@ impl Routes {
         requires { conforms self.now.columns row.now ≡ true }
         ensures { result ≡ is_taken self.now row.now (branch.now.number, branch.now.spec) }
     {
-        picks(&self.fork, &self.columns, row, branch.number())
+        picks_at(
+            &self.fork,
+            self.places.as_slice(),
+            &self.columns,
+            row,
+            branch.number(),
+        )
     }
 }
 
