@@ -8,3 +8,4 @@ pub mod PartLemmas
 pub mod FileLemmas
 pub mod WriteLemmas
 pub mod NextLemmas
+pub mod Once

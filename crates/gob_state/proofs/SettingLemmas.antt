@@ -1,13 +1,12 @@
 -- Lines that set a key: how they are told, and the texts that they make.
-use Rattle.std.proofs.Common.{◌≡◌, ◌≢◌, ⊎_elim, ℕ, zero, suc, ◌+◌, ◌<◌, ◌≤◌, ◌^◌, ◌/◌, ◌%◌, Bool, true, false}
+use Rattle.std.proofs.Common.{◌≡◌, ◌≢◌, ⊎_elim, ℕ, suc, ◌+◌, ◌<◌, ◌^◌, ◌/◌, ◌%◌, true}
 use Rattle.std.proofs.Common.{cond, not, ◌&&◌, ◌||◌, nat_eq, nat_le, nat_lt, List, [], ◌∷◌, ◌++◌, length, map, drop}
 use Rattle.std.proofs.Common.{get_or, MatchOption, refl, sym, ap, subst, ◌∙◌, Some, None, IfSome, IsUtf8, append_assoc}
 use Rattle.std.proofs.Common.{append-nil, length-append, arith, codes}
 use Rattle.std.specs.declared.option.Option.{Option}
 use Rattle.std.specs.Option.{option_map}
-use Rattle.std.specs.List.{AllByRecursion, IsDistinct, flat_map, list_all, list_any}
+use Rattle.std.specs.List.{AllByRecursion, flat_map, list_all}
 use Rattle.std.specs.Option.{is_some}
-use Rattle.std.specs.Str.{bytes_eq}
 use Rattle.std.proofs.Math.Seq.{drop-cons}
 use Rattle.std.specs.Fmt.{digit_glyph}
 use Rattle.std.proofs.lemmas.Bool.{and_parts, and_from, or_cases, cond_both, leb-true, ltb-true, ne_eqb, eqb-true}
@@ -343,27 +342,7 @@ pipelines_read n old rest ps some = all_read old rest ps some.along (some.along.
     (λ z zs after w g e. let long = length-append ps (z ∷ zs) in
     let all : length (ps ++ z ∷ zs) ≡ n = w.1 in let here = some.count in omega arith)
 
--- ---- pipelines that differ
-
-pub none_any : {X : Type 0} (p : X → Bool) (xs : List X) → list_any p xs ≡ false → AllByRecursion (λ x. p x ≡ false) xs
-none_any p [] e = tt
-none_any {X} p (x ∷ xs) e = cases (p x) refl e (none_any p xs)
-  where
-    cases : (b : Bool) → p x ≡ b → (b || list_any p xs) ≡ false
-        → (list_any p xs ≡ false → AllByRecursion (λ (y : X). p y ≡ false) xs)
-        → (p x ≡ false) × AllByRecursion (λ (y : X). p y ≡ false) xs
-    cases true is e later = absurd (true≢false e)
-    cases false is e later = (is, later e)
-
-any_not_none : {X : Type 0} (p : X → Bool) (xs : List X) → list_any p xs ≡ true → AllByRecursion (λ x. p x ≡ false) xs
-    → ⊥
-any_not_none p [] e all = true≢false (sym e)
-any_not_none {X} p (x ∷ xs) e all = any_not_none p xs (sym (ap (λ b. b || list_any p xs) all.0) ∙ e) all.1
-
--- no two of the pipelines behind this place are the same
-pub record DiffersFrom (ps : List (List ℕ)) (i : ℕ) : Type 0 where
-  pub behind : IsDistinct bytes_eq (drop i ps) → IsDistinct bytes_eq ps
-  pub whole : IsDistinct bytes_eq ps → IsDistinct bytes_eq (drop i ps)
+-- ---- places
 
 pub at_drop_or : {X : Type 0} (xs : List X) (i : ℕ) (d : X) → i < length xs → drop i xs ≡ get_or xs i d ∷ drop
     (i + 1) xs
@@ -375,36 +354,6 @@ at_drop_or xs i d below = drop-cons xs i d below ∙ (λ j. get_or xs i d ∷ dr
 pub at_drop : {X : Type 0} (xs : List X) (i : ℕ) (x : X) → i < length xs → x ≡ get_or xs i x
     → drop i xs ≡ x ∷ drop (i + 1) xs
 at_drop xs i x below is = at_drop_or xs i x below ∙ (λ j. sym is j ∷ drop (i + 1) xs)
-
-pub differs_next : (ps : List (List ℕ)) (i : ℕ) (p : List ℕ) → DiffersFrom ps i → i < length ps → p ≡ get_or ps i p
-    → list_any (bytes_eq p) (drop (i + 1) ps) ≡ false → DiffersFrom ps (i + 1)
-unfolding IsDistinct
-differs_next ps i p d below is none =
-    let rest = at_drop ps i p below is in
-    record {
-      behind = λ later. d.behind (subst (IsDistinct bytes_eq) (sym rest) (
-        none_any (bytes_eq p) (drop (i + 1) ps) none,
-        later,
-      ));
-      whole = λ all. (subst (IsDistinct bytes_eq) rest (d.whole all)).1;
-    }
-
-pub same_again : (ps : List (List ℕ)) (i : ℕ) (p : List ℕ) → DiffersFrom ps i → i < length ps → p ≡ get_or ps i p
-    → list_any (bytes_eq p) (drop (i + 1) ps) ≡ true → IsDistinct bytes_eq ps → ⊥
-unfolding IsDistinct
-same_again ps i p d below is any all =
-    any_not_none (bytes_eq p) (drop (i + 1) ps) any (subst (IsDistinct bytes_eq) (at_drop ps i p below is)
-    (d.whole all)).0
-
-pub all_differ : (ps : List (List ℕ)) (i : ℕ) → DiffersFrom ps i → length ps ≤ i → IsDistinct bytes_eq ps
-unfolding IsDistinct
-all_differ ps i d past = d.behind (subst (IsDistinct bytes_eq) (sym (drop-past ps i past)) tt)
-  where
-    drop-past : (ps : List (List ℕ)) (i : ℕ) → length ps ≤ i → drop i ps ≡ []
-    drop-past [] zero past = refl
-    drop-past [] (suc i) past = refl
-    drop-past (q ∷ qs) zero past = absurd (omega arith)
-    drop-past (q ∷ qs) (suc i) past = drop-past qs i (omega arith)
 
 -- ---- escaped values
 

@@ -12,6 +12,7 @@ use crate::settings::take_settings;
 use gob_plan::{List, NoMemory, Text};
 use gob_text::Words;
 use std::alloc::Global;
+use std::collections::HashSet;
 
 /// The number of a pipeline's lines, and then its lines.
 pub fn take_pipeline(alloc: Global, text: &mut Words) -> Result<Option<Text>, NoMemory>
@@ -50,15 +51,15 @@ pub fn has_pipeline(pipelines: &[Text], pipeline: &str) -> bool
     pipelines.iter().any(|p| p.as_str() == pipeline)
 }
 
-/// Whether no two of the pipelines are the same.
-pub fn are_distinct(pipelines: &[Text]) -> bool
-    ensures { IsTrue result ↔ IsDistinct bytes_eq pipelines.now }
+/// Whether no two of the pipelines are the same. Looks each of them up once, by its hash.
+pub fn are_distinct(alloc: Global, pipelines: &[Text]) -> Result<bool, NoMemory>
+    ensures { IfOk result (λ yes. IsTrue yes ↔ IsDistinct bytes_eq pipelines.now) }
 {
-    for i in 0..pipelines.len() {
-        let (_, behind) = pipelines.split_at(i + 1);
-        if has_pipeline(behind, pipelines[i].as_str()) {
-            return false;
+    let mut seen = HashSet::new(alloc);
+    for pipeline in pipelines {
+        if !seen.insert(pipeline.as_str())? {
+            return Ok(false);
         }
     }
-    true
+    Ok(true)
 }

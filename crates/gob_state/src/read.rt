@@ -47,7 +47,7 @@ fn take_all_pipelines(
     let Some(pipelines) = take_pipelines(alloc, text, count)? else {
         return Ok(None);
     };
-    if !are_distinct(pipelines.as_slice()) {
+    if !are_distinct(alloc, pipelines.as_slice())? {
         return Ok(None);
     }
     Ok(Some(pipelines))

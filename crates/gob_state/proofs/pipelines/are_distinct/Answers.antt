@@ -1,30 +1,40 @@
-use Rattle.std.proofs.Common.{◌≡◌, ◌+◌, true, false, refl, sym, ◌∙◌, drop}
+use Rattle.std.proofs.Common.{◌∙◌, Bor, ℕ, List, sym, ap, refl}
+use Rattle.std.proofs.Common.{rules}
 use Rattle.std.specs.List.{list_any}
 use Rattle.std.specs.Str.{bytes_eq}
 use Rattle.std.proofs.lemmas.Bool.{false≢true}
-use Rattle.gob_state.proofs.SettingLemmas.{all_differ, differs_next, same_again}
+use Rattle.gob_state.proofs.Once.{all_seen, apart_more, none_twice, seen_if, seen_more, seen_not, stands_twice}
 use Rattle.gob_state.proofs.pipelines.are_distinct.Goals as goal
 
-pub returns-then-has_pipeline : goal.returns-then-has_pipeline
-returns-then-has_pipeline c =
-    let any : list_any (bytes_eq c.index-pipelines-i.result) (drop (c.loop-i.i + 1) c.args.pipelines.now) ≡ true =
-    (λ j. list_any (bytes_eq (sym c.as_str.ensures j)) (sym c.split_at.ensures.back j)) ∙ sym c.has_pipeline.ensures
-    ∙ c.if-has_pipeline.true in (
-      λ h. absurd (false≢true h),
-      λ d. absurd (same_again c.args.pipelines.now c.loop-i.i c.index-pipelines-i.result c.loop-i.invariant
-          c.loop-i-test.true c.index-pipelines-i.is any d),
+pub loop-pipeline-init : goal.loop-pipeline-init
+loop-pipeline-init c = record {
+  apart = none_twice;
+  seen = λ q. ap (list_any (λ (n : Bor (List ℕ)). bytes_eq q.now n.now)) c.new-seen.ensures.empty;
+}
+
+pub returns-then-not-branch : goal.returns-then-not-branch
+returns-then-not-branch c =
+    let hit = seen_if _ (sym (c.in_ok-insert.ensures.added) ∙ c.if-not-branch.true) in (
+      λ e. absurd (false≢true e),
+      λ apart. absurd (stands_twice c.args.pipelines.now c.loop-pipeline.pipeline-index c.as_str.result.now c.pipeline-item.result
+          (search rules) (c.as_str.ensures ∙ c.pipeline-item.is)
+          (sym (c.loop-pipeline.invariant.seen c.as_str.result) ∙ hit) apart),
     )
 
-pub loop-i-preserved : goal.loop-i-preserved
-loop-i-preserved c =
-    let none : list_any (bytes_eq c.index-pipelines-i.result) (drop (c.loop-i.i + 1) c.args.pipelines.now) ≡ false =
-    (λ j. list_any (bytes_eq (sym c.as_str.ensures j)) (sym c.split_at.ensures.back j)) ∙ sym c.has_pipeline.ensures
-    ∙ c.if-has_pipeline.false in
-    differs_next c.args.pipelines.now c.loop-i.i c.index-pipelines-i.result c.loop-i.invariant c.loop-i-test.true
-    c.index-pipelines-i.is none
+pub loop-pipeline-preserved : goal.loop-pipeline-preserved
+loop-pipeline-preserved c =
+    let new = seen_not _ (sym (c.in_ok-insert.ensures.added) ∙ c.if-not-branch.false) in
+    record {
+      apart = apart_more c.args.pipelines.now c.loop-pipeline.pipeline-index c.as_str.result.now c.pipeline-item.result (search rules)
+          (c.as_str.ensures ∙ c.pipeline-item.is) c.loop-pipeline.invariant.apart
+          (sym (c.loop-pipeline.invariant.seen c.as_str.result) ∙ new);
+      seen = λ q. seen_more c.args.pipelines.now c.loop-pipeline.pipeline-index c.as_str.result.now c.pipeline-item.result q.now _ _
+          (search rules) (c.as_str.ensures ∙ c.pipeline-item.is) (c.loop-pipeline.invariant.seen q)
+          (c.in_ok-insert.ensures.updates.0 q);
+    }
 
 pub returns : goal.returns
 returns c = (
-  λ h. all_differ c.args.pipelines.now c.loop-i.i c.loop-i.invariant c.loop-i-test.false,
-  λ d. refl,
+  λ e. all_seen c.args.pipelines.now c.loop-pipeline.pipeline-index (search rules) c.loop-pipeline.invariant.apart,
+  λ apart. refl,
 )

@@ -19,13 +19,13 @@ returns-in_default-2 c = not_even _ _ _ None None
     c.in-Some.count c.in_ok-pipelines.field-0 None c.in-Some.ensures c.in_ok-pipelines.ensures c.in_default-2.is refl)
     (λ ps h. (h.0, h.1)) refl refl
 
-pub returns-then-not-are_distinct : goal.returns-then-not-are_distinct
-returns-then-not-are_distinct c = refused _ _ _ c.in-Some-2.pipelines None
+pub returns-then-not-branch : goal.returns-then-not-branch
+returns-then-not-branch c = refused _ _ _ c.in-Some-2.pipelines None
     (both_read (pipelines_pairing (version_of c.args.version)) _ c.take_count.new.text c.take_pipelines.new.text
     c.in-Some.count c.in-Some-2.pipelines c.in_ok-pipelines.field-0 _ c.in-Some.ensures c.in_ok-pipelines.ensures
     c.in-Some-2.is refl) (λ ps h. (h.0, h.1))
-    (λ h. false≢true (sym c.if-not-are_distinct.true
-    ∙ c.are_distinct.ensures.1 (subst (IsDistinct bytes_eq) (sym c.as_slice.ensures) h.2))) refl
+    (λ h. false≢true (sym c.if-not-branch.true
+    ∙ c.in_ok-are_distinct.ensures.1 (subst (IsDistinct bytes_eq) (sym c.as_slice.ensures) h.2))) refl
 
 pub returns : goal.returns
 returns c =
@@ -35,5 +35,5 @@ returns c =
     passed _ _ c.in-Some-2.pipelines r (λ ps h. (h.0, h.1)) (
       r.spelled.0.0,
       r.spelled.0.1,
-      subst (IsDistinct bytes_eq) c.as_slice.ensures (c.are_distinct.ensures.0 c.if-not-are_distinct.false),
+      subst (IsDistinct bytes_eq) c.as_slice.ensures (c.in_ok-are_distinct.ensures.0 c.if-not-branch.false),
     )
