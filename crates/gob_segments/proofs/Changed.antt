@@ -24,7 +24,7 @@ filter_alike {X} p q (x ∷ xs) alike =
     ∙ ap (λ (ys : List X). cond (q x) (x ∷ ys) ys) rest
 
 -- a test that holds of some member
-any_some : {X : Type 0} (f : X → Bool) (xs : List X) → list_any f xs ≡ true → (x : X) × Contains xs x × (f x ≡ true)
+pub any_some : {X : Type 0} (f : X → Bool) (xs : List X) → list_any f xs ≡ true → (x : X) × Contains xs x × (f x ≡ true)
 any_some f [] e = cc
 any_some {X} f (x ∷ xs) e = cases (f x) refl e (any_some f xs)
   where
@@ -33,7 +33,7 @@ any_some {X} f (x ∷ xs) e = cases (f x) refl e (any_some f xs)
     cases true is e later = (x, first_in x xs x refl, is)
     cases false is e later = let r = later e in (r.0, later_in x xs r.0 r.1, r.2)
 
-some_any : {X : Type 0} (f : X → Bool) (xs : List X) (x : X) → Contains xs x → f x ≡ true → list_any f xs ≡ true
+pub some_any : {X : Type 0} (f : X → Bool) (xs : List X) (x : X) → Contains xs x → f x ≡ true → list_any f xs ≡ true
 some_any f [] x h e = none_in x h
 some_any {X} f (y ∷ ys) x h e = ⊎_elim
     (λ same. ap (λ b. b || list_any f ys) (ap f same ∙ e))

@@ -1,4 +1,5 @@
 pub mod Changed
+pub mod Halves
 pub mod Kept
 pub mod Loads
 pub mod Named
@@ -7,4 +8,5 @@ pub mod Piped
 pub mod Put
 pub mod PutAll
 pub mod PutLines
+pub mod Later
 pub mod Stated

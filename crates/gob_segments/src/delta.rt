@@ -1,19 +1,19 @@
 //! The text of a change.
 ghost use Rattle.std.specs.Prelude.{◌≡◌, ◌+◌, ◌++◌, ℕ, List, length, nat_lt, unwrap_or, option_copied, IfOk, OnOk};
 ghost use Rattle.gob_ledger.specs.Delta.{MarksFollow, StateFollows, delta_spelling};
-ghost use Rattle.gob_ledger.specs.Marks.{Tiled, is_done};
 ghost use Rattle.gob_ledger.specs.Next.{no_marks};
 ghost use Rattle.gob_ledger.specs.Spelling.{Proper, version_2};
 ghost use Rattle.gob_marks.specs.Changed.{marks_in};
-ghost use Rattle.gob_segments.specs.Written.{changed_text, changed_texts, new_done, new_open};
+ghost use Rattle.gob_segments.specs.Written.{changed_text, changed_texts};
 
+use crate::since::{done_since, is_unchanged, next_of, open_since};
 use gob_marks::{Done, MarkTable, Marks, Range};
 use gob_plan::{Bytes, NoMemory};
 use gob_state::{State, push_numbered, push_part, push_pipelines, push_totals};
-use std::alloc::{AllocError, Global};
+use std::alloc::AllocError;
 
 /// The text of the change from one state to the next, in the second version: as long as what has changed. It takes one
-/// look-up for each done range of the later state.
+/// look-up for each partition of the later state, and in those that have changed a few for each range that was open.
 pub fn write_delta(before: &State, after: &State) -> Result<Bytes, NoMemory>
     requires before { Proper before.now }
     requires after { Proper after.now }
@@ -56,6 +56,9 @@ fn push_change(
     ensures { OnOk result (into.new.items
         ≡ into.old.items ++ changed_text part.now (unwrap_or (option_copied before.entry) no_marks) after.now) }
 {
+    if is_unchanged(before, after) {
+        return Ok(());
+    }
     let alloc = *into.allocator();
     let from = next_of(before);
     let done = done_since(alloc, before, after.done())?;
@@ -71,69 +74,4 @@ fn has_any(done: &[Done], owed: &[Range]) -> bool
     ensures { result ≡ nat_lt 0 (length done.now + length owed.now) }
 {
     done.len() + owed.len() > 0
-}
-
-fn done_since(
-    alloc: Global,
-    before: Option<&Marks>,
-    after: &[Done],
-) -> Result<Vec<Done>, AllocError>
-    ensures { IfOk result (λ done. done.items ≡ new_done (unwrap_or (option_copied before.entry) no_marks) after.now) }
-{
-    let mut done = Vec::new(alloc);
-    for i in 0..after.len() {
-        let range = after[i];
-        if was_done(before, begin_of(range)) {
-            continue;
-        }
-        done.push(range)?;
-    }
-    Ok(done)
-}
-
-fn open_since(alloc: Global, from: u64, after: &[Range]) -> Result<Vec<Range>, AllocError>
-    ensures { IfOk result (λ owed. owed.items ≡ new_open from after.now) }
-{
-    let mut owed = Vec::new(alloc);
-    for i in 0..after.len() {
-        let range = after[i];
-        if begins_below(range, from) {
-            continue;
-        }
-        owed.push(range)?;
-    }
-    Ok(owed)
-}
-
-#[tactic(auto, using(gob_ledger::proofs::Ranges::tiled_none))]
-fn next_of(before: Option<&Marks>) -> u64
-    ensures next { result ≡ (unwrap_or (option_copied before.entry) no_marks).next }
-    ensures tiled { Tiled (unwrap_or (option_copied before.entry) no_marks) }
-{
-    match before {
-        Some(marks) => marks.next(),
-        None => 0,
-    }
-}
-
-fn begin_of(done: Done) -> u64
-    ensures { result ≡ done.span.lo }
-{
-    let range = done.range;
-    range.lo
-}
-
-fn was_done(before: Option<&Marks>, at: u64) -> bool
-    ensures { result ≡ is_done at (unwrap_or (option_copied before.entry) no_marks) }
-{
-    match before {
-        Some(marks) => marks.covers(at),
-        None => false,
-    }
-}
-
-fn begins_below(range: Range, at: u64) -> bool
-    ensures { result ≡ nat_lt range.lo at }
-{
-    range.lo < at
 }

@@ -10,6 +10,7 @@ mod names;
 mod parts;
 mod pipelines;
 mod ranges;
+mod since;
 
 pub use apply::apply_delta;
 pub use change::{Loaded, StateChange, state_change};

@@ -1,12 +1,20 @@
-use Rattle.std.proofs.Common.{◌≡◌, ◌∙◌, ◌+◌, ◌++◌, List, true, false, not, nat_lt, length, ap, sym}
+use Rattle.std.proofs.Common.{◌≡◌, ◌∙◌, ◌+◌, ◌++◌, List, [], cond, true, false, not, nat_lt, length, ap, sym}
 use Rattle.std.proofs.Common.{subst, append-nil, unwrap_or, option_copied}
 use Rattle.gob_ledger.specs.Marks.{InOrder, Marks, Done, Span, is_done}
+use Rattle.gob_ledger.specs.Delta.{changed_marks}
 use Rattle.gob_ledger.specs.Next.{no_marks}
 use Rattle.gob_ledger.proofs.Ranges.{spans, order_filter}
 use Rattle.gob_ledger.specs.Spelling.{part_text, version_2}
 use Rattle.gob_segments.specs.Written.{new_done, new_open}
 use Rattle.gob_segments.proofs.Changed.{changed_text-none, changed_text-some, marks_since, order_kept}
 use Rattle.gob_segments.proofs.delta.push_change.Goals as goal
+
+pub returns-then-is_unchanged : goal.returns-then-is_unchanged
+returns-then-is_unchanged c =
+    let b : Marks = unwrap_or (option_copied c.args.before) no_marks in
+    let text = part_text version_2 (c.args.part.now, changed_marks b c.args.after.now) in
+    sym (append-nil c.args.into.now.items)
+    ∙ ap (λ v. c.args.into.now.items ++ cond v text []) (sym (c.is_unchanged.ensures c.if-is_unchanged.true))
 
 pub returns-then-not-has_any : goal.returns-then-not-has_any
 returns-then-not-has_any c =
