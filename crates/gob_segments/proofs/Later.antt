@@ -1,6 +1,6 @@
 -- Where the new ranges of later marks lie: in ranges that were open, and behind all that was taken.
-use Rattle.std.proofs.Common.{◌≡◌, ⊎_elim, ℕ, ◌+◌, ◌<◌, ◌≤◌, Bool, true, false, cond, not, ◌&&◌, ◌||◌, nat_le, nat_lt}
-use Rattle.std.proofs.Common.{List, [], ◌∷◌, ◌++◌, map, length, drop, get_or, refl, sym, ap, subst, ◌∙◌, append_assoc}
+use Rattle.std.proofs.Common.{◌≡◌, ⊎_elim, ℕ, ◌+◌, ◌<◌, ◌≤◌, Bool, true, false, cond, not, ◌||◌, nat_lt}
+use Rattle.std.proofs.Common.{List, [], ◌∷◌, ◌++◌, length, drop, get_or, refl, sym, ap, subst, ◌∙◌, append_assoc}
 use Rattle.std.proofs.Common.{append-nil, zero-add, arith}
 use Rattle.std.specs.List.{Contains, filter, flat_map, list_any}
 use Rattle.std.proofs.lemmas.Bool.{ltb-false, lt-ltb, le-ltb}
@@ -8,7 +8,7 @@ use Rattle.std.proofs.lemmas.Bool.Decides.{nat_tests}
 use Rattle.std.proofs.lemmas.List.Elements.{filter_agree}
 use Rattle.gob_ledger.specs.Marks.{Marks, Span, Done, Tiled, InOrder, has, is_done, done_spans}
 use Rattle.gob_ledger.specs.Delta.{MarksFollow, changed_marks, has_ranges}
-use Rattle.gob_ledger.proofs.Members.{none_in, first_in, later_in, in_cases, map_in}
+use Rattle.gob_ledger.proofs.Members.{first_in, later_in, in_cases, map_in}
 use Rattle.gob_ledger.proofs.Ranges.{spans, times, inside, within, covered-is, order_members, owed_below}
 use Rattle.gob_marks.proofs.Places.{done-times}
 use Rattle.gob_state.proofs.SettingLemmas.{at_drop}
@@ -85,11 +85,11 @@ gathered next from (s ∷ ss) ds (a, b, c) below rise =
     behind : (d : Done) → is_free ss next d ≡ true → s.hi ≤ d.span.lo
     behind d e = or_either (s.hi ≤ d.span.lo) (list_any (has d.span.lo) ss) (not (nat_lt d.span.lo next)) e
         (λ h.
-            let r = any_some (has d.span.lo) ss h in
-            omega (arith, (order_members s.hi ss r.0 c r.1).0, (within d.span.lo r.0 r.2).0))
+        let r = any_some (has d.span.lo) ss h in
+        omega (arith, (order_members s.hi ss r.0 c r.1).0, (within d.span.lo r.0 r.2).0))
         (λ h.
-            let over : next ≤ d.span.lo = ltb-false d.span.lo next (not_true (nat_lt d.span.lo next) h) in
-            omega (arith, over, below s (first_in s ss s refl)))
+        let over : next ≤ d.span.lo = ltb-false d.span.lo next (not_true (nat_lt d.span.lo next) h) in
+        omega (arith, over, below s (first_in s ss s refl)))
 
 open-times : (at : ℕ) (ss : List Span) → list_any (has at) ss ≡ nat_lt 0 (times at ss)
 open-times at [] = sym (le-ltb 0 0 (omega arith))
@@ -173,8 +173,8 @@ rest_within from low x xs y ys (a, b, c) (e, f, g) all d h =
     (λ same. absurd (⊎_elim
     (λ alike. omega (arith, later, b, ap (λ (k : Done). k.span.lo) same, ap (λ (k : Done). k.span.lo) alike))
     (λ k.
-        let over = (order_members y.span.hi (spans ys) x.span g (map_in (λ (k : Done). k.span) ys x k)).0 in
-        omega (arith, later, b, f, over, ap (λ (k : Done). k.span.lo) same))
+    let over = (order_members y.span.hi (spans ys) x.span g (map_in (λ (k : Done). k.span) ys x k)).0 in
+    omega (arith, later, b, f, over, ap (λ (k : Done). k.span.lo) same))
     (in_cases y ys x (all x (first_in x xs x refl)))))
     (λ k. k)
     (in_cases y ys d (all d (later_in x xs d h)))
@@ -217,9 +217,9 @@ nothing_open : (before after : Marks) → Tiled after → before.next ≡ after.
     → new_open before.next after.owed ≡ []
 nothing_open before after later same = none_kept (λ s. not (nat_lt s.lo before.next)) after.owed
     (λ s h.
-        let end = owed_below after later s h in
-        let some = (order_members 0 after.owed s later.owed h).1 in
-        ap not (lt-ltb s.lo before.next (omega (arith, end, some, same))))
+    let end = owed_below after later s h in
+    let some = (order_members 0 after.owed s later.owed h).1 in
+    ap not (lt-ltb s.lo before.next (omega (arith, end, some, same))))
 
 -- marks that end where others end, with as many done ranges, have no range that is new
 pub nothing_new : (before after : Marks) → MarksFollow before after → Tiled before → Tiled after

@@ -12,8 +12,8 @@ use gob_plan::{Bytes, NoMemory};
 use gob_state::{State, push_numbered, push_part, push_pipelines, push_totals};
 use std::alloc::AllocError;
 
-/// The text of the change from one state to the next, in the second version: as long as what has changed. It takes one
-/// look-up for each partition of the later state, and in those that have changed a few for each range that was open.
+/// The text of the change from one state to the next, in the second version: as long as what has changed. It takes a
+/// look-up for each partition of the later state, and in those that have changed two for each range that was open.
 pub fn write_delta(before: &State, after: &State) -> Result<Bytes, NoMemory>
     requires before { Proper before.now }
     requires after { Proper after.now }

@@ -61,7 +61,11 @@ fn part_begun_in(after: &[Done], range: Range) -> &[Done]
 }
 
 /// The open ranges that begin behind what was taken.
-pub(crate) fn open_since(alloc: Global, from: u64, after: &[Range]) -> Result<Vec<Range>, AllocError>
+pub(crate) fn open_since(
+    alloc: Global,
+    from: u64,
+    after: &[Range],
+) -> Result<Vec<Range>, AllocError>
     requires { InOrder 0 after.now }
     ensures { IfOk result (λ owed. owed.items ≡ new_open from after.now) }
 {
