@@ -1,5 +1,5 @@
--- Ranges in order that are parted at an offset: what begins below it stands in front, and what begins there or behind it
--- follows.
+-- Ranges in order that are parted at an offset: what begins below it stands in front, and what begins there or behind
+-- it follows.
 use Rattle.std.proofs.Common.{◌≡◌, ℕ, zero, suc, ◌<◌, ◌≤◌, Bool, true, false, cond, not, List, [], ◌∷◌, map}
 use Rattle.std.proofs.Common.{take, drop, length, get_or, refl, sym, ap, ◌∙◌, arith}
 use Rattle.std.specs.List.{filter}

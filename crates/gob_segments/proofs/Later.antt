@@ -202,8 +202,8 @@ none_done m tiled = none_kept (λ d. not (is_done d.span.lo m)) m.finished (λ d
   where
     known : (d : Done) → Contains m.finished d → is_done d.span.lo m ≡ true
     known d h =
-        let some = (order_members 0 (done_spans m) d.span tiled.finished (map_in (λ (e : Done). e.span) m.finished d h)).1
-        in
+        let there = map_in (λ (e : Done). e.span) m.finished d h in
+        let some = (order_members 0 (done_spans m) d.span tiled.finished there).1 in
         some_any (λ (e : Done). has d.span.lo e.span) m.finished d h (inside d.span.lo d.span (omega arith) some)
 
 nothing_done : (before after : Marks) → MarksFollow before after → Tiled before → Tiled after

@@ -1,7 +1,7 @@
 //! Which ranges of a partition are new.
 
-ghost use Rattle.std.specs.Prelude.{◌≡◌, ◌≤◌, ◌++◌, [], false, length, map, drop, take, not, nat_lt, unwrap_or, option_copied};
-ghost use Rattle.std.specs.Prelude.{IfOk, IsTrue, OnOk};
+ghost use Rattle.std.specs.Prelude.{◌≡◌, ◌≤◌, ◌++◌, [], false, length, map, drop, take, nat_lt};
+ghost use Rattle.std.specs.Prelude.{unwrap_or, option_copied, IfOk, IsTrue, OnOk};
 ghost use Rattle.std.specs.List.{filter, flat_map};
 ghost use Rattle.gob_ledger.specs.Delta.{MarksFollow, changed_marks, has_ranges};
 ghost use Rattle.gob_ledger.specs.Marks.{InOrder, Tiled};

@@ -14,22 +14,24 @@ loop-pipeline-init c = record {
 
 pub returns-then-not-branch : goal.returns-then-not-branch
 returns-then-not-branch c =
+    let x = c.as_str.result in
     let hit = seen_if _ (sym (c.in_ok-insert.ensures.added) ∙ c.if-not-branch.true) in (
       λ e. absurd (false≢true e),
-      λ apart. absurd (stands_twice c.args.pipelines.now c.loop-pipeline.pipeline-index c.as_str.result.now c.pipeline-item.result
-          (search rules) (c.as_str.ensures ∙ c.pipeline-item.is)
-          (sym (c.loop-pipeline.invariant.seen c.as_str.result) ∙ hit) apart),
+      λ apart. absurd (stands_twice c.args.pipelines.now c.loop-pipeline.pipeline-index x.now c.pipeline-item.result
+          (search rules) (c.as_str.ensures ∙ c.pipeline-item.is) (sym (c.loop-pipeline.invariant.seen x) ∙ hit) apart),
     )
 
 pub loop-pipeline-preserved : goal.loop-pipeline-preserved
 loop-pipeline-preserved c =
+    let x = c.as_str.result in
+    let i = c.loop-pipeline.pipeline-index in
     let new = seen_not _ (sym (c.in_ok-insert.ensures.added) ∙ c.if-not-branch.false) in
     record {
-      apart = apart_more c.args.pipelines.now c.loop-pipeline.pipeline-index c.as_str.result.now c.pipeline-item.result (search rules)
+      apart = apart_more c.args.pipelines.now i x.now c.pipeline-item.result (search rules)
           (c.as_str.ensures ∙ c.pipeline-item.is) c.loop-pipeline.invariant.apart
-          (sym (c.loop-pipeline.invariant.seen c.as_str.result) ∙ new);
-      seen = λ q. seen_more c.args.pipelines.now c.loop-pipeline.pipeline-index c.as_str.result.now c.pipeline-item.result q.now _ _
-          (search rules) (c.as_str.ensures ∙ c.pipeline-item.is) (c.loop-pipeline.invariant.seen q)
+          (sym (c.loop-pipeline.invariant.seen x) ∙ new);
+      seen = λ q. seen_more c.args.pipelines.now i x.now c.pipeline-item.result q.now _ _ (search rules)
+          (c.as_str.ensures ∙ c.pipeline-item.is) (c.loop-pipeline.invariant.seen q)
           (c.in_ok-insert.ensures.updates.0 q);
     }
 
