@@ -12,7 +12,8 @@ use Rattle.gob_plan.specs.declared.plan.Plan.{Plan}
 use Rattle.gob_plan.specs.declared.units.Unit.{Unit as WorkUnit}
 use Rattle.gob_pipeline.specs.Machine.{MachineValue, WasFed}
 use Rattle.gob_stage.specs.Attempt.{AttemptValue, new_attempt}
-use Rattle.gob_task.specs.Task.{AreSent, HasBegun, IsPullable, TaskValue, unit_sends}
+use Rattle.gob_task.specs.Task.{AreSent, AreSpelled, HasBegun, IsPullable, Names, TaskValue, unit_sends}
+use Rattle.gob_task.proofs.Spelled.{none_spelled}
 
 pub few_branches : (plan : Plan) → is_fitting plan ≡ true → length plan.branches ≤ 8
 few_branches plan fits =
@@ -38,12 +39,12 @@ nothing_sent plan u = record {
   only = λ name bytes is. absurd (let no : None ≡ Some bytes = is in cc);
 }
 
-pub has_begun : (job : List ℕ) (plan : Plan) (u v : WorkUnit) (number attempt : ℕ) (m : MachineValue) (a : AttemptValue)
-    → IsPullable u → number < 2 ^ 32 → attempt < 2 ^ 32 → v ≡ u → WasFed plan m [] → m.lo ≡ v.lo
-    → length m.counts.branches ≡ length plan.branches → a ≡ new_attempt job number attempt
+pub has_begun : (job : List ℕ) (plan : Plan) (u v : WorkUnit) (number attempt : ℕ) (m : MachineValue) (names : Names)
+    (a : AttemptValue) → IsPullable u → number < 2 ^ 32 → attempt < 2 ^ 32 → v ≡ u → WasFed plan m [] → m.lo ≡ v.lo
+    → length m.counts.branches ≡ length plan.branches → names ≡ [] → a ≡ new_attempt job number attempt
     → HasBegun job plan u number attempt
-    (record { unit = v; index = number; failures = attempt; machine = m; staged = a })
-has_begun job plan u v number attempt m a pullable small few same known lo branches new = record {
+    (record { unit = v; index = number; failures = attempt; machine = m; names = names; staged = a })
+has_begun job plan u v number attempt m names a pullable small few same known lo branches unspelled new = record {
   unit = same;
   index = refl;
   failures = refl;
@@ -65,6 +66,7 @@ has_begun job plan u v number attempt m a pullable small few same known lo branc
       };
     };
     left = omega (arith, (subst IsPullable (sym same) pullable).bytes);
+    names = subst (AreSpelled plan v) (sym unspelled) (none_spelled plan v);
   };
   staged = new;
 }

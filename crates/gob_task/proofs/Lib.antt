@@ -6,5 +6,6 @@ pub mod Published
 pub mod Pulls
 pub mod Sent
 pub mod Slots
+pub mod Spelled
 pub mod Turns
 pub mod Warnings

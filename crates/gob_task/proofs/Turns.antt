@@ -18,8 +18,8 @@ use Rattle.gob_pipeline.specs.Made.{AreEmpty, AreSlots, Buffers, filled}
 use Rattle.gob_pipeline.proofs.Filled.{pieces_fill}
 use Rattle.gob_stage.specs.Attempt.{AttemptValue, HoldsStaged}
 use Rattle.gob_task.specs.Staging.{Appended, Appends, HoldsAppends, appends_of, with_appends}
-use Rattle.gob_task.specs.Task.{AreSent, HoldsSent, HoldsToStop, StandsBehind, TaskValue, WasFedIn, unit_length}
-use Rattle.gob_task.specs.Task.{unit_sends}
+use Rattle.gob_task.specs.Task.{AreSent, AreSpelled, HoldsSent, HoldsToStop, Names, StandsBehind, TaskValue}
+use Rattle.gob_task.specs.Task.{WasFedIn, unit_length, unit_sends}
 use Rattle.gob_task.specs.Turn.{BytesTaken, FilesKept, GoesOn, IsFed, Tells, TurnRulesValue, end_of_bytes}
 use Rattle.gob_task.specs.declared.task.Turn.{Turn}
 use Rattle.gob_task.specs.declared.task.Turn.TheVariants as turn
@@ -34,9 +34,9 @@ sent_whole : (plan : Plan) (lo : ℕ) (bytes : List ℕ) → stop_of plan (unit_
 unfolding sent_before_stop
 sent_whole plan lo bytes none = ap deliveries_of ((parts_join plan (unit_fold plan lo bytes) []).all none)
 
--- the same task with another machine and other files
-abbrev pub with_both : TaskValue → MachineValue → AttemptValue → TaskValue
-with_both t m a = record t { machine = m; staged = a }
+-- the same task with another machine, other names and other files
+abbrev pub with_parts : TaskValue → MachineValue → Names → AttemptValue → TaskValue
+with_parts t m names a = record t { machine = m; names = names; staged = a }
 
 -- one piece was fed to the task's machine, which sent this, and what came of it was staged
 pub record PieceTaken (rules : TurnRulesValue) (t : TaskValue) (m : MachineValue) (a : AttemptValue) (fed piece :
@@ -93,15 +93,15 @@ piece_sent rules t m a fed piece after old new p contents sent =
         (sym (pieces_fill p.before after sends.given p.empty sends.added p.slots s))
         ∙ (sym (sent-append s (unit_sends plan t.unit fed) sends.given) ∙ ap (sent_to s) (sym joined)))
 
-files_kept : (rules : TurnRulesValue) (t : TaskValue) (m : MachineValue) (a : AttemptValue)
+files_kept : (rules : TurnRulesValue) (t : TaskValue) (m : MachineValue) (names : Names) (a : AttemptValue)
     (fed piece : List ℕ) (after : Buffers) (old new : Option Disk) → PieceTaken rules t m a fed piece after old new
-    → FilesKept rules t (with_both t m a) fed piece old new
-files_kept rules t m a fed piece after old new p = record {
+    → FilesKept rules t (with_parts t m names a) fed piece old new
+files_kept rules t m names a fed piece after old new p = record {
   unit = refl;
   folder = ap (λ v. v.folder) p.appended.attempt ∙ after_folder es t.staged;
   holds = both_map (HoldsAppends es t.staged)
-      (λ d e. HoldsSent rules.plan t fed d.files → HoldsToStop rules.plan (with_both t m a) (fed ++ piece) e.files) held
-      old new p.appended.holds;
+      (λ d e. HoldsSent rules.plan t fed d.files
+      → HoldsToStop rules.plan (with_parts t m names a) (fed ++ piece) e.files) held old new p.appended.holds;
   appends = record { buffers = after; slots = p.slots; calls = p.appended.calls };
 }
   where
@@ -109,7 +109,7 @@ files_kept rules t m a fed piece after old new p = record {
     es = appends_of rules.plan t.unit (filled after)
 
     held : (d e : Disk) → HoldsAppends es t.staged d e → HoldsSent rules.plan t fed d.files
-        → HoldsToStop rules.plan (with_both t m a) (fed ++ piece) e.files
+        → HoldsToStop rules.plan (with_parts t m names a) (fed ++ piece) e.files
     held d e appends h = record {
       contents = with_appends es h.contents;
       sent = piece_sent rules t m a fed piece after old new p h.contents h.sent;
@@ -124,11 +124,11 @@ pub record OnwardTaken (rules : TurnRulesValue) (t u : TaskValue) (fed piece : L
   pub same : IsFed rules t u fed piece old new
   pub most : length (fed ++ piece) ≤ unit_length t.unit
 
-onward : (rules : TurnRulesValue) (t : TaskValue) (m : MachineValue) (a : AttemptValue)
+onward : (rules : TurnRulesValue) (t : TaskValue) (m : MachineValue) (names : Names) (a : AttemptValue)
     (fed piece : List ℕ) (after : Buffers) (old new : Option Disk) → PieceTaken rules t m a fed piece after old new
     → stop_of rules.plan (unit_fold rules.plan t.unit.lo (fed ++ piece)) ≡ None
-    → OnwardTaken rules t (with_both t m a) fed piece old new
-onward rules t m a fed piece after old new p none = record {
+    → OnwardTaken rules t (with_parts t m names a) fed piece old new
+onward rules t m names a fed piece after old new p none = record {
   was = record {
     pullable = w.pullable;
     small = w.small;
@@ -151,8 +151,8 @@ onward rules t m a fed piece after old new p none = record {
     index = refl;
     failures = refl;
     holds = both_map (HoldsAppends es t.staged)
-        (λ d e. HoldsSent plan t fed d.files → HoldsSent plan (with_both t m a) (fed ++ piece) e.files) held old new
-        p.appended.holds;
+        (λ d e. HoldsSent plan t fed d.files → HoldsSent plan (with_parts t m names a) (fed ++ piece) e.files) held
+        old new p.appended.holds;
   };
   most = omega (arith, length-append fed piece, w.known.seen, p.within);
 }
@@ -180,7 +180,7 @@ onward rules t m a fed piece after old new p none = record {
         (piece_sent rules t m a fed piece after old new p contents sent)
 
     held : (d e : Disk) → HoldsAppends es t.staged d e → HoldsSent plan t fed d.files
-        → HoldsSent plan (with_both t m a) (fed ++ piece) e.files
+        → HoldsSent plan (with_parts t m names a) (fed ++ piece) e.files
     held d e appends h = record {
       contents = with_appends es h.contents;
       sent = sent_now h.contents h.sent;
@@ -188,37 +188,39 @@ onward rules t m a fed piece after old new p none = record {
           (appends h.contents h.holds);
     }
 
-goes_on : (rules : TurnRulesValue) (t : TaskValue) (m : MachineValue) (a : AttemptValue)
+goes_on : (rules : TurnRulesValue) (t : TaskValue) (m : MachineValue) (names : Names) (a : AttemptValue)
     (fed piece : List ℕ) (after : Buffers) (old new : Option Disk) (r : Turn)
-    → PieceTaken rules t m a fed piece after old new → Tells r (end_of_bytes rules.plan t.unit (fed ++ piece))
-    → GoesOn rules t (with_both t m a) fed piece r old new
-goes_on rules t m a fed piece after old new turn.Going p is =
+    → PieceTaken rules t m a fed piece after old new → AreSpelled rules.plan t.unit names
+    → Tells r (end_of_bytes rules.plan t.unit (fed ++ piece))
+    → GoesOn rules t (with_parts t m names a) fed piece r old new
+goes_on rules t m names a fed piece after old new turn.Going p spelled is =
     let end = going_told rules.plan t.unit (fed ++ piece) is in
-    let o = onward rules t m a fed piece after old new p end.goes_on in
-    (record { was = o.was; left = end.left }, o.same)
-goes_on rules t m a fed piece after old new turn.Retry p is = tt
-goes_on rules t m a fed piece after old new (turn.Failed cause) p is = tt
-goes_on rules t m a fed piece after old new turn.Whole p is =
+    let o = onward rules t m names a fed piece after old new p end.goes_on in
+    (record { was = o.was; left = end.left; names = spelled }, o.same)
+goes_on rules t m names a fed piece after old new turn.Retry p spelled is = tt
+goes_on rules t m names a fed piece after old new (turn.Failed cause) p spelled is = tt
+goes_on rules t m names a fed piece after old new turn.Whole p spelled is =
     let end = whole_told rules.plan t.unit (fed ++ piece) is.0 is.1 p.stands.was.pullable.listed is.2 in
-    let o = onward rules t m a fed piece after old new p end.goes_on in
+    let o = onward rules t m names a fed piece after old new p end.goes_on in
     (record { was = o.was; whole = omega (arith, end.all, o.most); good = end.good }, o.same)
 
 -- a machine and files behind one more piece
-pub piece_done : (rules : TurnRulesValue) (t : TaskValue) (m : MachineValue) (a : AttemptValue) (fed piece : List ℕ)
-    (before after : Buffers) (old new : Option Disk) (r : Turn) (plan : Plan) → plan ≡ rules.plan
+pub piece_done : (rules : TurnRulesValue) (t : TaskValue) (m : MachineValue) (names : Names) (a : AttemptValue)
+    (fed piece : List ℕ) (before after : Buffers) (old new : Option Disk) (r : Turn) (plan : Plan) → plan ≡ rules.plan
     → length rules.plan.branches ≤ 8 → AreBytes t.unit.part → StandsBehind rules.job rules.plan t fed
     → AreEmpty before → Fed rules.plan t.machine m piece before after
     → length m.counts.branches ≡ length t.machine.counts.branches → length after ≤ 2 ^ 32 → AreSlots after
-    → Appended (appends_of plan t.unit (filled after)) t.staged a old new
+    → AreSpelled plan t.unit names → Appended (appends_of plan t.unit (filled after)) t.staged a old new
     → t.machine.seen + length piece ≤ unit_length t.unit
     → ((bytes : List ℕ) → WasFed plan m bytes → Tells r (end_of_bytes plan t.unit bytes))
-    → BytesTaken rules t (with_both t m a) fed piece r old new
-piece_done rules t m a fed piece before after old new r plan same few bytes stands empty took branches short slots
-    appended
+    → BytesTaken rules t (with_parts t m names a) fed piece r old new
+piece_done rules t m names a fed piece before after old new r plan same few bytes stands empty took branches short slots
+    spelled appended
     within judged = record {
       ends = ends;
-      goes_on = goes_on rules t m a fed piece after old new r taken ends;
-      files = files_kept rules t m a fed piece after old new taken;
+      goes_on = goes_on rules t m names a fed piece after old new r taken
+          (subst (λ p. AreSpelled p t.unit names) same spelled) ends;
+      files = files_kept rules t m names a fed piece after old new taken;
     }
   where
     ends : Tells r (end_of_bytes rules.plan t.unit (fed ++ piece))

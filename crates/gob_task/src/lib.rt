@@ -4,6 +4,7 @@
 mod fault;
 mod judging;
 mod laws;
+mod names;
 mod staging;
 mod task;
 

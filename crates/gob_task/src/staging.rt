@@ -1,17 +1,17 @@
 //! What the buffers hold is appended to an attempt's files.
-ghost use Rattle.std.specs.Prelude.{◌≡◌, ◌≢◌, ◌<◌, ◌≤◌, ◌^◌, ◌∷◌, true, [], length, IfOk, IfSome, OnOk};
+ghost use Rattle.std.specs.Prelude.{◌≡◌, ◌<◌, ◌^◌, true, length, IfSome, OnOk};
 ghost use Rattle.std.specs.List.{flat_map};
 ghost use Rattle.gob_device.specs.Causes.{HasCause};
 ghost use Rattle.gob_device.specs.Disk.{Along};
-ghost use Rattle.gob_recovery.specs.Sequence.{is_file_name};
-ghost use Rattle.gob_pipeline.specs.Made.{AreSlots, IsSlot, filled, filled_place, is_place, target_in};
+ghost use Rattle.gob_pipeline.specs.Made.{AreSlots, IsSlot, filled, filled_place, is_place};
 ghost use Rattle.gob_recovery.specs.Commits.{OnlyBelow};
 ghost use Rattle.gob_stage.specs.Attempt.{AreThere};
-ghost use Rattle.gob_task.specs.Task.{name_in};
+ghost use Rattle.gob_task.specs.Task.{AreSpelled};
 ghost use Rattle.gob_task.specs.Staging.{Appended, appends_of};
 
-use gob_pipeline::{TargetBuffers, name_of, target_at};
-use gob_plan::{Bytes, NoMemory, Plan, Text, Unit};
+use crate::names::TargetNames;
+use gob_pipeline::TargetBuffers;
+use gob_plan::{Bytes, Plan, Text, Unit};
 use gob_stage::{Attempt, StageFault};
 use gob_volume::Volume;
 use std::alloc::Global;
@@ -22,11 +22,14 @@ pub fn stage<V: Volume>(
     plan: &Plan,
     unit: &Unit,
     buffers: &TargetBuffers,
+    names: &mut TargetNames,
     staged: &mut Attempt,
     volume: &mut V,
 ) -> Result<(), StageFault>
     requires few { length buffers.now < 2 ^ 32 }
+    requires spelled { AreSpelled plan.now unit.now names.old }
     requires there { IfSome (V.disk volume.old) (λ d. AreThere staged.old d.files) }
+    ensures spelled { AreSpelled plan.now unit.now names.new }
     ensures appended { OnOk result (Appended (appends_of plan.now unit.now (filled buffers.now)) staged.old staged.new
         (V.disk volume.old) (V.disk volume.new)) }
     ensures slots { OnOk result (AreSlots buffers.now) }
@@ -34,7 +37,16 @@ pub fn stage<V: Volume>(
     ensures cause { HasCause (V.faults volume.old) (V.faults volume.new) (result ≡ Err StageFault.Failed) }
 {
     for slot in 0..buffers.slots() {
-        stage_slot(alloc, plan, unit, slot, buffers.slot(slot), staged, volume)?;
+        stage_slot(
+            alloc,
+            plan,
+            unit,
+            slot,
+            buffers.slot(slot),
+            names,
+            staged,
+            volume,
+        )?;
     }
     Ok(())
 }
@@ -46,12 +58,15 @@ fn stage_slot<V: Volume>(
     unit: &Unit,
     slot: usize,
     places: &[(Text, Bytes)],
+    names: &mut TargetNames,
     staged: &mut Attempt,
     volume: &mut V,
 ) -> Result<(), StageFault>
     requires few { slot < 2 ^ 32 }
     requires proper { IsSlot slot places.now }
+    requires spelled { AreSpelled plan.now unit.now names.old }
     requires there { IfSome (V.disk volume.old) (λ d. AreThere staged.old d.files) }
+    ensures spelled { AreSpelled plan.now unit.now names.new }
     ensures appended { OnOk result (Appended
         (appends_of plan.now unit.now (flat_map (filled_place slot) places.now)) staged.old staged.new
         (V.disk volume.old) (V.disk volume.new)) }
@@ -59,7 +74,7 @@ fn stage_slot<V: Volume>(
     ensures cause { HasCause (V.faults volume.old) (V.faults volume.new) (result ≡ Err StageFault.Failed) }
 {
     for (place, bytes) in places {
-        stage_place(alloc, plan, unit, slot, place, bytes, staged, volume)?;
+        stage_place(alloc, plan, unit, slot, place, bytes, names, staged, volume)?;
     }
     Ok(())
 }
@@ -72,12 +87,15 @@ fn stage_place<V: Volume>(
     slot: usize,
     place: &Text,
     bytes: &Bytes,
+    names: &mut TargetNames,
     staged: &mut Attempt,
     volume: &mut V,
 ) -> Result<(), StageFault>
     requires few { slot < 2 ^ 32 }
     requires proper { is_place place.now ≡ true }
+    requires spelled { AreSpelled plan.now unit.now names.old }
     requires there { IfSome (V.disk volume.old) (λ d. AreThere staged.old d.files) }
+    ensures spelled { AreSpelled plan.now unit.now names.new }
     ensures appended { OnOk result (Appended
         (appends_of plan.now unit.now (filled_place slot (place.now, bytes.now))) staged.old staged.new
         (V.disk volume.old) (V.disk volume.new)) }
@@ -87,25 +105,7 @@ fn stage_place<V: Volume>(
     if bytes.is_empty() {
         return Ok(());
     }
-    let name = target_name(alloc, plan, unit, slot, place)?;
-    staged.append(volume, name.as_str(), bytes.as_slice())?;
+    let at = names.spell(alloc, plan, unit, slot, place)?;
+    staged.append(volume, names.name_at(slot, at), bytes.as_slice())?;
     Ok(())
-}
-
-// The name of the target of a place in a slot.
-fn target_name(
-    alloc: Global,
-    plan: &Plan,
-    unit: &Unit,
-    slot: usize,
-    place: &Text,
-) -> Result<Text, NoMemory>
-    requires few { slot < 2 ^ 32 }
-    requires proper { is_place place.now ≡ true }
-    ensures name { IfOk result (λ name. name ≡ name_in plan.now unit.now (target_in slot place.now)) }
-    ensures spelled { IfOk result (λ name. is_file_name name ≡ true) }
-{
-    let target = target_at(slot, place.as_str());
-    let name = name_of(alloc, plan, unit.part.as_str(), unit.lo, unit.hi, target)?;
-    Ok(name)
 }

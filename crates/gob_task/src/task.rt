@@ -15,6 +15,7 @@ ghost use Rattle.gob_task.specs.Bench.{FitsBench};
 
 use crate::TurnFault;
 use crate::judging::{judge, warnings};
+use crate::names::TargetNames;
 use crate::staging::stage;
 use gob_io::Source;
 use gob_pipeline::{Machine, Pipeline, TargetBuffers, Workspace};
@@ -113,6 +114,7 @@ pub struct Task {
     index: u32,
     failures: u32,
     machine: Machine,
+    names: TargetNames,
     staged: Attempt,
 }
 
@@ -126,6 +128,7 @@ impl Model for Task {
       index = t.index;
       failures = t.failures;
       machine = t.machine;
+      names = t.names;
       staged = t.staged;
     } };
 }
@@ -158,12 +161,14 @@ impl Task {
     {
         let unit = unit.copy()?;
         let machine = Machine::new(alloc, &rules.pipeline, unit.lo)?;
+        let names = TargetNames::new(alloc);
         let staged = Attempt::new(alloc, rules.job.as_str(), index, failures)?;
         Ok(Task {
             unit,
             index,
             failures,
             machine,
+            names,
             staged,
         })
     }
@@ -249,7 +254,15 @@ impl Task {
         self.machine
             .feed(&rules.pipeline, workspace, piece, buffers)?;
         let plan = rules.pipeline.plan();
-        stage(alloc, plan, &self.unit, buffers, &mut self.staged, volume)?;
+        stage(
+            alloc,
+            plan,
+            &self.unit,
+            buffers,
+            &mut self.names,
+            &mut self.staged,
+            volume,
+        )?;
         Ok(judge(plan, &self.unit, &self.machine))
     }
 

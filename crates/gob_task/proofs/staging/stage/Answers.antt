@@ -8,7 +8,7 @@ pub stage_slot-requires-clause-there : goal.stage_slot-requires-clause-there
 stage_slot-requires-clause-there g c = c.loop-slot.invariant.so_far.appended.there c.requires.there
 
 pub loop-slot-init : goal.loop-slot-init
-loop-slot-init g c = record { so_far = so_far_none _ _ _; slots = no_slots c.args.buffers.now }
+loop-slot-init g c = record { so_far = so_far_none _ _ _; spelled = c.requires.spelled; slots = no_slots c.args.buffers.now }
 
 pub loop-slot-preserved : goal.loop-slot-preserved
 loop-slot-preserved g c = record {
@@ -17,6 +17,7 @@ loop-slot-preserved g c = record {
       c.slot.ensures.found)
       c.loop-slot.invariant.so_far c.in_ok-stage_slot.ensures.appended c.stage_slot.ensures.below
       c.stage_slot.ensures.cause.later;
+  spelled = c.stage_slot.ensures.spelled;
   slots = more_slots c.loop-slot.slot c.args.buffers.now c.slot.result.now c.loop-slot.invariant.slots
       c.slot.ensures.found
       c.slot.ensures.proper;

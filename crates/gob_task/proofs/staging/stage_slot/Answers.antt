@@ -12,7 +12,7 @@ pub stage_place-requires-clause-there : goal.stage_place-requires-clause-there
 stage_place-requires-clause-there g c = c.loop-place.invariant.so_far.appended.there c.requires.there
 
 pub loop-place-init : goal.loop-place-init
-loop-place-init g c = record { so_far = so_far_none _ _ _ }
+loop-place-init g c = record { so_far = so_far_none _ _ _; spelled = c.requires.spelled }
 
 pub loop-place-preserved : goal.loop-place-preserved
 loop-place-preserved g c = record {
@@ -20,6 +20,7 @@ loop-place-preserved g c = record {
       (next_place c.args.plan.now c.args.unit.now c.args.slot c.args.places.now c.loop-place.place-index
       c.loop-place-item.result (omega arith) c.loop-place-item.is) c.loop-place.invariant.so_far
       c.in_ok-stage_place.ensures.appended c.stage_place.ensures.below c.stage_place.ensures.cause.later;
+  spelled = c.stage_place.ensures.spelled;
 }
 
 pub returns-in_err-stage_place-clause-below : goal.returns-in_err-stage_place-clause-below
