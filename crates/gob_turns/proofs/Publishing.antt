@@ -28,7 +28,7 @@ use Rattle.gob_task.specs.Turn.{Devices, TurnRulesValue}
 use Rattle.gob_turns.specs.declared.progress.Progress.{Progress}
 use Rattle.gob_turns.specs.Asked.{AreHeld, IsWorkedBy}
 use Rattle.gob_turns.specs.Standing.{HasResult, IsGoodUnit, results_in}
-use Rattle.gob_turns.specs.Taken.{AllGiven, AllStaged, AreResults, IsGiven, pairs_in}
+use Rattle.gob_turns.specs.Taken.{AllGiven, AllStaged, AreResults, pairs_in}
 use Rattle.gob_turns.specs.Underway.{AreUnderway}
 use Rattle.gob_turns.proofs.Ending.{AllTold, HaveEnded, all_told}
 

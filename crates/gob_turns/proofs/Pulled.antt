@@ -1,8 +1,8 @@
 -- What a source tells of is more pulls, one after the other.
-use Rattle.std.proofs.Common.{◌≡◌, ⊎_elim, List, [], ◌∷◌, ◌++◌, refl, sym, ap, subst, ◌∙◌, Some, None, option_map}
+use Rattle.std.proofs.Common.{◌≡◌, ⊎_elim, [], ◌∷◌, ◌++◌, refl, sym, ap, subst, ◌∙◌, Some, None, option_map}
 use Rattle.std.specs.declared.option.Option.{Option}
 use Rattle.std.proofs.lemmas.List.{append-nil, append_assoc}
-use Rattle.gob_device.specs.Supply.{Pull, Supply, with_pulls}
+use Rattle.gob_device.specs.Supply.{Supply, with_pulls}
 use Rattle.gob_turns.specs.Taken.{HasPulled}
 use Rattle.gob_turns.specs.Underway.{AtMostOnePull}
 
