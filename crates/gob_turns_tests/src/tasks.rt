@@ -106,7 +106,7 @@ const TRIED_AGAIN: Good = Good {
     files: SECOND,
 };
 
-const FAILING: [Failing; 6] = [
+const FAILING: [Failing; 7] = [
     // Its range ends behind the partition.
     Failing {
         work: Work { hi: 10, ..WHOLE },
@@ -132,6 +132,20 @@ const FAILING: [Failing; 6] = [
             at: 2,
         },
         end: 7,
+    },
+    // The first of three lines is killed.
+    Failing {
+        work: Work {
+            lines: Lines::Short,
+            bytes: b"kill\nb\nc\n",
+            ..WHOLE
+        },
+        cause: Cause::Kill {
+            branch: 0,
+            policy: 0,
+            at: 0,
+        },
+        end: 5,
     },
     // One bad record may be passed over, and the second ends it.
     Failing {
