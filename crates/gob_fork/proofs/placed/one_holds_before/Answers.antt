@@ -13,6 +13,7 @@ split_at-requires-2 c =
 
 pub one_holds-requires-clause-stand : goal.one_holds-requires-clause-stand
 one_holds-requires-clause-stand c =
-    ap₂ (λ ts ps. stand_at (columns_tested ts) c.args.columns.now ps) c.split_at.ensures.front c.split_at-2.ensures.front
+    ap₂ (λ ts ps. stand_at (columns_tested ts) c.args.columns.now ps) c.split_at.ensures.front
+    c.split_at-2.ensures.front
     ∙ front_stands (λ (t : TestSpec). t.column) c.args.tests.now c.args.columns.now c.args.places.now c.min-count.result
     c.requires.stand

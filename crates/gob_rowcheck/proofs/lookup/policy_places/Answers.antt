@@ -11,8 +11,8 @@ loop-policy-preserved c =
     let policies = c.args.policies.now in
     let i = c.loop-policy.policy-index in
     record {
-      fit = left_pass (λ (p : PolicySpec). test_fits p.test c.args.columns.now) policies i c.policy-item.result c.loop-policy-test.true
-          c.loop-policy.invariant.fit;
+      fit = left_pass (λ (p : PolicySpec). test_fits p.test c.args.columns.now) policies i
+          c.policy-item.result c.loop-policy-test.true c.loop-policy.invariant.fit;
       stand = ap (stand_at (map column (take (i + 1) policies)) c.args.columns.now) c.in_ok-push.ensures.items
           ∙ one_more_stands column policies c.args.columns.now c.loop-policy.places.items i c.policy-item.result
           c.place_of.result c.loop-policy.invariant.stand c.loop-policy-test.true c.policy-item.is c.place_of.ensures;

@@ -11,8 +11,8 @@ loop-test-preserved c =
     let tests = c.args.tests.now in
     let i = c.loop-test.test-index in
     record {
-      fit = left_pass (λ (t : TestSpec). test_fits t c.args.columns.now) tests i c.test-item.result c.loop-test-test.true
-          c.loop-test.invariant.fit;
+      fit = left_pass (λ (t : TestSpec). test_fits t c.args.columns.now) tests i
+          c.test-item.result c.loop-test-test.true c.loop-test.invariant.fit;
       stand = ap (stand_at (map column (take (i + 1) tests)) c.args.columns.now) c.in_ok-push.ensures.items
           ∙ one_more_stands column tests c.args.columns.now c.loop-test.places.items i c.test-item.result
           c.place_of.result c.loop-test.invariant.stand c.loop-test-test.true c.test-item.is c.place_of.ensures;

@@ -58,7 +58,8 @@ returns-in_ok-push_owned-in-Some-clause-ok c =
     let over = c.loop-branch-test.false in
     sent_all r row c.args.items.now now bs (option_copied c.loop-branch.waiting) c.loop-branch.branch-index
     c.loop-branch.invariant l.specs (omega (arith, over))
-    ∙ ap (λ o. concatenation (Some now) (waiting_makes (option_copied o) row)) c.in-Some.is ∙ c.in_ok-push_owned-in-Some.ensures.ok
+    ∙ ap (λ o. concatenation (Some now) (waiting_makes (option_copied o) row)) c.in-Some.is
+    ∙ c.in_ok-push_owned-in-Some.ensures.ok
 
 pub returns-in_ok-push_owned-in-Some-clause-routed : goal.returns-in_ok-push_owned-in-Some-clause-routed
 returns-in_ok-push_owned-in-Some-clause-routed c =
