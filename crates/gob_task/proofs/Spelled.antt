@@ -1,6 +1,6 @@
 -- The names of targets, in tables of slots.
-use Rattle.std.proofs.Common.{◌≡◌, ◌⊎◌, ⊎_elim, inl, inr, ℕ, zero, suc, ◌<◌, Bool, true, false, cond, List, [], ◌∷◌, ◌++◌}
-use Rattle.std.proofs.Common.{length, get_or, set, map, refl, sym, ap, subst, ◌∙◌, None, Some, option_map, arith}
+use Rattle.std.proofs.Common.{◌≡◌, ◌⊎◌, ⊎_elim, inl, inr, ℕ, zero, suc, ◌<◌, Bool, true, false, cond, List, [], ◌∷◌}
+use Rattle.std.proofs.Common.{◌++◌, length, get_or, set, map, refl, sym, ap, subst, ◌∙◌, None, Some, option_map, arith}
 use Rattle.std.specs.declared.cmp.Ordering.{Ordering}
 use Rattle.std.specs.declared.cmp.Ordering.TheVariants.{Less, Equal, Greater}
 use Rattle.std.specs.declared.option.Option.{Option}
@@ -54,7 +54,8 @@ first_rank : (name : List ℕ) (n : ℕ) → cond (is_gt (name_cmp name name)) n
 first_rank name n = ap (λ o. cond (is_gt o) n zero) (name_level name)
 
 -- a name that is put in stands at its rank
-pub stands_with : {X : Type 0} (t : Table X) (name : List ℕ) (x : X) → StandsAt (with_name t name x) name (rank_of t name)
+pub stands_with : {X : Type 0} (t : Table X) (name : List ℕ) (x : X)
+    → StandsAt (with_name t name x) name (rank_of t name)
 stands_with [] name x = record { rank = first_rank name _; within = omega arith; named = λ d. refl }
 stands_with {X} (e ∷ es) name x = cases (name_cmp name e.0) refl (stands_with es name x)
   where

@@ -8,7 +8,11 @@ pub stage_slot-requires-clause-there : goal.stage_slot-requires-clause-there
 stage_slot-requires-clause-there g c = c.loop-slot.invariant.so_far.appended.there c.requires.there
 
 pub loop-slot-init : goal.loop-slot-init
-loop-slot-init g c = record { so_far = so_far_none _ _ _; spelled = c.requires.spelled; slots = no_slots c.args.buffers.now }
+loop-slot-init g c = record {
+  so_far = so_far_none _ _ _;
+  spelled = c.requires.spelled;
+  slots = no_slots c.args.buffers.now;
+}
 
 pub loop-slot-preserved : goal.loop-slot-preserved
 loop-slot-preserved g c = record {
