@@ -4,7 +4,7 @@ mod Parts
 mod Differing
 mod Fitting
 mod Joining
-mod Reading
+pub mod Reading
 mod Stepping
 mod Beginning
 mod Pushing

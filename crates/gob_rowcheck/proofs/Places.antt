@@ -12,7 +12,6 @@ use Rattle.gob_plan.specs.declared.checks.Check.{Check}
 use Rattle.gob_plan.specs.Columns.{position_of}
 use Rattle.gob_plan.specs.Rows.{values_conform, value_of, kind_of}
 use Rattle.gob_plan.specs.Tests.{fits_kind}
-use Rattle.gob_plan.proofs.Named.{no_kind}
 use Rattle.gob_rowcheck.specs.Places.{is_at, stands_at}
 
 -- where the first column with a name stands; the number of columns, where none has it
@@ -90,6 +89,15 @@ pub told_place : (lent name : List ℕ) (columns : List Column) (i : ℕ) → le
     → stands_at name columns i ≡ true
 told_place lent name columns i same is =
     ap (λ n. stands_at n columns i) (sym same) ∙ ap (λ o. is_at o i) (sym is) ∙ nat_itself i
+
+no_kind : (name : List ℕ) (columns : List Column) → (length columns ≤ place name columns) → kind_of name columns ≡ None
+no_kind name [] above = refl
+no_kind name (c ∷ cs) above = either (bytes_eq c.name name) refl (no_kind name cs)
+  where
+    either : (b : Bool) → bytes_eq c.name name ≡ b → (length cs ≤ place name cs → kind_of name cs ≡ None)
+        → kind_of name (c ∷ cs) ≡ None
+    either true e more = let h = rw e at above in absurd (omega (arith, h))
+    either false e more = rw e (more (let h = rw e at above in omega (arith, h)))
 
 -- a name that no look-up finds has no kind
 pub told_none : (lent name : List ℕ) (columns : List Column) → lent ≡ name → None ≡ position_of lent columns

@@ -9,7 +9,7 @@ mod Began
 mod Counting
 mod Trailing
 mod Answering
-mod Settled
+pub mod Settled
 mod Refusing
 mod Fitting
 mod Holding
