@@ -19,6 +19,7 @@ use Rattle.gob_recovery.specs.Commits.{OnlyBelow}
 use Rattle.gob_recovery.proofs.Settled.{settled_is}
 use Rattle.gob_history.specs.Runs.{run_units, state_or_empty}
 use Rattle.gob_cut.specs.declared.run_units.Cut.{Cut}
+use Rattle.gob_seq.proofs.Trails.{maps_both}
 use Rattle.gob_segments.specs.declared.change.Loaded.{Loaded}
 use Rattle.gob_state.specs.declared.next.Outcome.{Outcome}
 use Rattle.gob_turns.specs.Taken.{FailuresRose, HasPulled, given_up_in}
@@ -62,7 +63,8 @@ failures_after failing before between now later f =
 
 begun : (job : Job) (l : Loaded) (cut : Cut) (old mid : World) (d : Disk) → IsUnderway job l cut old mid
     → old.disk ≡ Some d → (c : Disk) × (mid.disk ≡ Some c) × Began job.name l d c
-begun job l cut old mid d u is = began_of job.name l old.disk mid.disk d u.found u.alike u.names is
+begun job l cut old mid d u is = began_of job.name l old.disk mid.disk d u.found
+    (maps_both u.alike (maps_both u.names u.staged)) is
 
 is_done : (job : Job) (failing : List ℕ) (l : Loaded) (cut : Cut) (out : Outcome) (old mid new : World)
     → IsUnderway job l cut old mid → WorkIsDone job failing l cut out mid new

@@ -18,10 +18,11 @@ use Rattle.gob_recovery.proofs.Spelled.{to_one}
 use Rattle.gob_history.specs.Runs.{state_or_empty}
 use Rattle.gob_segments.specs.Loading.{IsKept, IsLoaded}
 use Rattle.gob_segments.specs.declared.change.Loaded.{Loaded}
-use Rattle.gob_seq.specs.Maps.{ImagesSettleTheSame, SettlesByName}
+use Rattle.gob_seq.specs.Maps.{ImagesSettleTheSame, OnlyUnstages, SettlesByName}
 use Rattle.gob_run.specs.Cutting.{parts_of}
 use Rattle.gob_run.specs.Entry.{Entry, IsBroken, OnlySettled, SettleAlike, SettledTo, sequence, state}
 use Rattle.gob_run.specs.Faults.{Finds}
+use Rattle.gob_run.proofs.Settled.{OnlySettle, settle_alike}
 use Rattle.gob_run.proofs.Wents.{adds_both, went_of}
 
 -- the volume is settled, and this was loaded
@@ -35,25 +36,16 @@ pub record Began (job : List ℕ) (l : Loaded) (d c : Disk) : Type 0 where
   pub loaded : IsLoaded kept l
   pub alike : SettleAlike job d.files first
   pub names : EachOf (SettlesByName job d.files) first
-
-alike_of : (job : List ℕ) (m : Files) (added : List Files) → EachOf (ImagesSettleTheSame job m) added
-    → SettleAlike job m added
-alike_of job m added each settled quiet settles =
-    each-map (ImagesSettleTheSame job m) (SettlesAs job settled) added (λ n h. h settled quiet settles) each
+  pub staged : EachOf (OnlyUnstages job d.files) first
 
 pub began_of : (job : List ℕ) (l : Loaded) (old mid : Option Disk) (d : Disk) → AddsMaps (Finds job l) old mid
-    → Along (ImagesSettleTheSame job) old mid → Along (SettlesByName job) old mid → old ≡ Some d
-    → (c : Disk) × (mid ≡ Some c) × Began job l d c
-began_of job l old mid d found alike names is =
-    let both = adds_both (EachFrom (ImagesSettleTheSame job)) (EachFrom (SettlesByName job)) old mid alike names in
-    let all = adds_both (Finds job l)
-    (λ m a. EachFrom (ImagesSettleTheSame job) m a × EachFrom (SettlesByName job) m a) old mid found both in
-    let w = went_of (λ m a. Finds job l m a × (EachFrom (ImagesSettleTheSame job) m a
-    × EachFrom (SettlesByName job) m a)) old mid d all is in
+    → AddsMaps (OnlySettle job) old mid → old ≡ Some d → (c : Disk) × (mid ≡ Some c) × Began job l d c
+began_of job l old mid d found only is =
+    let all = adds_both (Finds job l) (OnlySettle job) old mid found only in
+    let w = went_of (λ m a. Finds job l m a × OnlySettle job m a) old mid d all is in
     (w.0, w.1, begun w.0 w.2)
   where
-    begun : (c : Disk) → Went (λ m a. Finds job l m a × (EachFrom (ImagesSettleTheSame job) m a
-        × EachFrom (SettlesByName job) m a)) d c → Began job l d c
+    begun : (c : Disk) → Went (λ m a. Finds job l m a × OnlySettle job m a) d c → Began job l d c
     begun c w =
         let kept = subst (λ n. IsKept job n l) (sym w.stands) w.holds.0.1 in
         record {
@@ -64,8 +56,9 @@ began_of job l old mid d found alike names is =
           kept = kept.0;
           keeps = kept.1;
           loaded = kept.2;
-          alike = alike_of job d.files w.added w.holds.1.0;
-          names = w.holds.1.1;
+          alike = settle_alike job d.files w.added w.holds.1.0;
+          names = w.holds.1.1.0;
+          staged = w.holds.1.1.1;
         }
 
 -- ---- what is found
@@ -79,13 +72,18 @@ entry_of job l d c b = record {
   state = sym b.loaded.state;
 }
 
-pub settled_to : (job : List ℕ) (l : Loaded) (d c : Disk) → Began job l d c → SettledTo job d c
-settled_to job l d c b =
-    record { added = b.first; trail = b.trail; stands = b.stands; alike = b.alike; settles = b.settles }
-
 pub only_settled : (job : List ℕ) (l : Loaded) (d c : Disk) → Began job l d c → OnlySettled job d c
-only_settled job l d c b =
-    record { added = b.first; trail = b.trail; stands = b.stands; alike = b.alike; names = b.names }
+only_settled job l d c b = record {
+  added = b.first;
+  trail = b.trail;
+  stands = b.stands;
+  alike = b.alike;
+  names = b.names;
+  staged = b.staged;
+}
+
+pub settled_to : (job : List ℕ) (l : Loaded) (d c : Disk) → Began job l d c → SettledTo job d c
+settled_to job l d c b = record { only = only_settled job l d c b; settles = b.settles }
 
 -- no other state is found
 pub found_is_one : (job : List ℕ) (l : Loaded) (d c : Disk) (o : Option State) → Began job l d c

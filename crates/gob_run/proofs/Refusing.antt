@@ -25,7 +25,7 @@ use Rattle.gob_recovery.proofs.Damaged.{one_damage}
 use Rattle.gob_recovery.proofs.Spelled.{to_one}
 use Rattle.gob_history.specs.Runs.{done_in, run_units, state_or_empty}
 use Rattle.gob_history.proofs.Fronts.{published_unstaged}
-use Rattle.gob_seq.specs.Maps.{ImagesSettleTheSame, SettlesByName}
+use Rattle.gob_seq.specs.Maps.{ImagesSettleTheSame, OnlyUnstages, SettlesByName}
 use Rattle.gob_seq.proofs.Trails.{maps_both}
 use Rattle.gob_segments.specs.declared.change.Loaded.{Loaded}
 use Rattle.gob_state.specs.declared.next.Outcome.{Outcome}
@@ -44,7 +44,8 @@ use Rattle.gob_run.proofs.Counting.{new_count_told}
 use Rattle.gob_run.proofs.Entering.{entering_trail}
 use Rattle.gob_run.proofs.Readers.{published_apart, readers_of_settling}
 use Rattle.gob_run.proofs.Reading.{readers_of_entering}
-use Rattle.gob_run.proofs.Settled.{AllSettle, broken_one, broken_settled, settle_alike, settled_to}
+use Rattle.gob_run.proofs.Settled.{AllSettle, OnlySettle, broken_one, broken_settled, only_settled, settle_alike}
+use Rattle.gob_run.proofs.Settled.{settled_to}
 use Rattle.gob_run.proofs.Wents.{adds_both, went_of}
 
 -- ---- what devices tell
@@ -71,19 +72,16 @@ filed R old new both d is = both_there R old.disk new.disk d is both
 pub record StopsEarly (job : Job) (old new : World) : Type 0 where
   pub alike : Along (ImagesSettleTheSame job.name) old.disk new.disk
   pub names : Along (SettlesByName job.name) old.disk new.disk
+  pub staged : Along (OnlyUnstages job.name) old.disk new.disk
   pub below : Along (OnlyBelow (under job.name [])) old.disk new.disk
   pub unpulled : NoPull old new
   pub goes_on : GoesOn old new
 
 -- the maps that it added, each of which settles as the first one does
 early_maps : (job : Job) (old new : World) (d : Disk) → StopsEarly job old new → old.disk ≡ Some d
-    → (e : Disk) × (new.disk ≡ Some e)
-    × Went (λ m added. EachOf (ImagesSettleTheSame job.name m) added × EachOf (SettlesByName job.name m) added) d e
-early_maps job old new d early in_old = went_of
-    (λ m added. EachOf (ImagesSettleTheSame job.name m) added × EachOf (SettlesByName job.name m) added) old.disk
-    new.disk d
-    (adds_both (λ m added. EachOf (ImagesSettleTheSame job.name m) added)
-    (λ m added. EachOf (SettlesByName job.name m) added) old.disk new.disk early.alike early.names) in_old
+    → (e : Disk) × (new.disk ≡ Some e) × Went (OnlySettle job.name) d e
+early_maps job old new d early in_old = went_of (OnlySettle job.name) old.disk new.disk d
+    (maps_both early.alike (maps_both early.names early.staged)) in_old
 
 early_trail : (job : Job) (old new : World) → StopsEarly job old new → WhereTold (TrailIs job []) old new
 early_trail job old new early d s in_old in_supply =
@@ -99,7 +97,7 @@ early_trail job old new early d s in_old in_supply =
         goes = entering_trail job s.held [] d.files t.2.added
             (settle_alike job.name d.files t.2.added t.2.holds.0);
         reads = readers_of_entering job s.held [] d.files t.2.added
-            (readers_of_settling job.name d.files t.2.added t.2.holds.1);
+            (readers_of_settling job.name d.files t.2.added t.2.holds.1.0);
       },
     )
 
@@ -133,7 +131,7 @@ early_published job old new early d in_old =
             (λ same. inl (sym same ∙ here))
             (λ same. inr (inl (sym same ∙ here)))
             (by settled settles name (published_unstaged job.name name published)
-            (published_apart job.name name published))) t.2.holds.1;
+            (published_apart job.name name published))) t.2.holds.1.0;
       },
     )
 
@@ -174,13 +172,7 @@ early_idle job old new early d s in_old in_supply =
       s,
       t.1,
       early.unpulled ∙ in_supply,
-      λ owes. record {
-        added = t.2.added;
-        trail = t.2.trail;
-        stands = t.2.stands;
-        alike = settle_alike job.name d.files t.2.added t.2.holds.0;
-        names = t.2.holds.1;
-      },
+      λ owes. only_settled job.name d t.0 t.2,
     )
 
 none_failed : (before now : ℕ) → before ≤ now → FailuresRose [] before now
@@ -325,10 +317,10 @@ entry_unbroken job name m o found is =
     found.keeps
 
 pub found_settled : (job : List ℕ) (l : Loaded) (old new : World) → AddsMaps (Finds job l) old.disk new.disk
-    → Along (ImagesSettleTheSame job) old.disk new.disk → WhereFiled (SettledTo job) old new
-found_settled job l old new found alike =
+    → AddsMaps (OnlySettle job) old.disk new.disk → WhereFiled (SettledTo job) old new
+found_settled job l old new found only =
     let all : AddsMaps (AllSettle job) old.disk new.disk =
-    maps_map (λ m added h. (h.0.0, h.1)) (maps_both found alike) in
+    maps_map (λ m added h. (h.0.0, h.1)) (maps_both found only) in
     filed (SettledTo job) old new
     (both_map (Went (AllSettle job)) (SettledTo job) (settled_to job) old.disk new.disk all.told)
 
@@ -466,7 +458,8 @@ refused_at_cut job l f old new early found stopped =
     λ d in_old. let t = filed (Went (Finds job.name l)) old new found.told d in_old in
     found_entry job.name l d t.0 t.2 in
     early_answer job f old new early
-    (cut_caused job o f old new (if_known old.disk entry) (found_settled job.name l old new found early.alike)
+    (cut_caused job o f old new (if_known old.disk entry) (found_settled job.name l old new found
+    (maps_both early.alike (maps_both early.names early.staged)))
     early.unpulled cut)
     (record {
       broken = if_known old.disk (λ d in_old name is.

@@ -12,7 +12,7 @@ use Rattle.gob_recovery.specs.Settle.{IsDamaged, Settles, SettlesAs}
 use Rattle.gob_recovery.proofs.Damaged.{one_damage}
 use Rattle.gob_recovery.proofs.Spelled.{to_one}
 use Rattle.gob_seq.specs.Faults.{Damages, RoseIfSettleFailed}
-use Rattle.gob_seq.specs.Maps.{Becomes, ImagesSettleTheSame}
+use Rattle.gob_seq.specs.Maps.{Becomes, ImagesSettleTheSame, OnlyUnstages, SettlesByName}
 use Rattle.gob_seq.specs.declared.faults.SettleFault.{SettleFault}
 use Rattle.gob_seq.specs.declared.faults.SettleFault.TheVariants as settle_fault
 use Rattle.gob_seq.proofs.Trails.{always, if_both, maps_both}
@@ -21,7 +21,7 @@ use Rattle.gob_segments.specs.declared.change.Loaded.{Loaded}
 use Rattle.gob_segments.specs.declared.faults.LoadFault.{LoadFault}
 use Rattle.gob_segments.specs.declared.faults.LoadFault.TheVariants as load_fault
 use Rattle.gob_run.specs.Answers.{ToldFirst}
-use Rattle.gob_run.specs.Entry.{IsBroken, LeftBroken, SettleAlike, SettledTo, sequence, state}
+use Rattle.gob_run.specs.Entry.{IsBroken, LeftBroken, OnlySettled, SettleAlike, SettledTo, sequence, state}
 use Rattle.gob_run.specs.Faults.{BeginsNot, Finds, run_of_load, run_of_settle}
 use Rattle.gob_run.specs.declared.fault.RunFault.{RunFault}
 use Rattle.gob_run.specs.declared.fault.RunFault.TheVariants.{Damaged}
@@ -34,16 +34,29 @@ pub settle_alike : (job : List ℕ) (m : Files) (added : List Files) → EachOf 
 settle_alike job m added each = λ settled quiet s.
     each-map (ImagesSettleTheSame job m) (SettlesAs job settled) added (λ n same. same settled quiet s) each
 
--- they lead to the map to which the first one settles
-abbrev pub AllSettle : List ℕ → Files → List Files → Type 0
-AllSettle job m added = Becomes (Settles job) m added × EachFrom (ImagesSettleTheSame job) m added
+-- nothing is changed on the way but what settling changes
+abbrev pub OnlySettle : List ℕ → Files → List Files → Type 0
+OnlySettle job m added = EachFrom (ImagesSettleTheSame job) m added
+    × (EachFrom (SettlesByName job) m added × EachFrom (OnlyUnstages job) m added)
 
-pub settled_to : (job : List ℕ) (d e : Disk) → Went (AllSettle job) d e → SettledTo job d e
-settled_to job d e w = record {
+pub only_settled : (job : List ℕ) (d e : Disk) → Went (OnlySettle job) d e → OnlySettled job d e
+only_settled job d e w = record {
   added = w.added;
   trail = w.trail;
   stands = w.stands;
-  alike = settle_alike job d.files w.added w.holds.1;
+  alike = settle_alike job d.files w.added w.holds.0;
+  names = w.holds.1.0;
+  staged = w.holds.1.1;
+}
+
+-- the maps lead to the one to which the first one settles
+abbrev pub AllSettle : List ℕ → Files → List Files → Type 0
+AllSettle job m added = Becomes (Settles job) m added × OnlySettle job m added
+
+pub settled_to : (job : List ℕ) (d e : Disk) → Went (AllSettle job) d e → SettledTo job d e
+settled_to job d e w = record {
+  only = only_settled job d e
+      (record { added = w.added; trail = w.trail; stands = w.stands; holds = w.holds.1 });
   settles = subst (Settles job d.files) (sym w.stands) w.holds.0;
 }
 
@@ -79,14 +92,14 @@ settle_stops job old new before now (settle_fault.Damaged name) damages rose =
     unchanged (Some d) damaged = sequence damaged refl
 
 pub load_stops : (job : List ℕ) {old between new : Option Disk} (before middle now : ℕ) (f : LoadFault)
-    → AddsMaps (Becomes (Settles job)) old between → Along (ImagesSettleTheSame job) old between → new ≡ between
+    → AddsMaps (Becomes (Settles job)) old between → AddsMaps (OnlySettle job) old between → new ≡ between
     → BlamesDamage job between f → before ≤ middle → RoseIfLoadFailed middle now f
     → BeginsNot job old new before now (run_of_load f)
-load_stops job before middle now load_fault.Failed settles images same blames later rose =
+load_stops job before middle now load_fault.Failed settles only same blames later rose =
     rose_after before middle now later rose
-load_stops job before middle now load_fault.Memory settles images same blames later rose = tt
-load_stops job {old} {between} {new} before middle now (load_fault.Damaged name) settles images same blames later rose =
-    subst (Both (LeftBroken job name) old) (sym same) (both old between (maps_both settles images).told blames)
+load_stops job before middle now load_fault.Memory settles only same blames later rose = tt
+load_stops job {old} {between} {new} before middle now (load_fault.Damaged name) settles only same blames later rose =
+    subst (Both (LeftBroken job name) old) (sym same) (both old between (maps_both settles only).told blames)
   where
     both : (o n : Option Disk) → Both (Went (AllSettle job)) o n → IfSome n (λ d. StateDamaged job d.files name)
         → Both (LeftBroken job name) o n

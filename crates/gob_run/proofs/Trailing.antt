@@ -25,7 +25,7 @@ use Rattle.gob_commit.specs.Done.{GroupsDone, PublishedFrom}
 use Rattle.gob_commit.proofs.Doing.{all_done}
 use Rattle.gob_cut.specs.declared.run_units.Cut.{Cut}
 use Rattle.gob_segments.specs.declared.change.Loaded.{Loaded}
-use Rattle.gob_seq.specs.Maps.{ImagesSettleTheSame, SettlesByName}
+use Rattle.gob_seq.specs.Maps.{ImagesSettleTheSame, OnlyUnstages, SettlesByName}
 use Rattle.gob_state.specs.Committed.{verdicts_in}
 use Rattle.gob_state.specs.declared.next.Outcome.{Outcome}
 use Rattle.gob_run.specs.Answers.{PublishesGiven, RunIsFiled, RunIsLeft, TrailIs, groups_by}
@@ -44,6 +44,7 @@ use Rattle.gob_run.proofs.Reading.{PublishedAmong, readers_of_run}
 pub record EntrySays (job : List ℕ) (old mid : Option Disk) (before now : ℕ) : Type 0 where
   pub alike : Along (ImagesSettleTheSame job) old mid
   pub names : Along (SettlesByName job) old mid
+  pub staged : Along (OnlyUnstages job) old mid
   pub below : Along (OnlyBelow (under job [])) old mid
   pub later : before ≤ now
 
@@ -53,6 +54,7 @@ pub record IsUnderway (job : Job) (l : Loaded) (cut : Cut) (old mid : World) : T
   pub found : AddsMaps (Finds job.name l) old.disk mid.disk
   pub alike : Along (ImagesSettleTheSame job.name) old.disk mid.disk
   pub names : Along (SettlesByName job.name) old.disk mid.disk
+  pub staged : Along (OnlyUnstages job.name) old.disk mid.disk
   pub below : Along (OnlyBelow (under job.name [])) old.disk mid.disk
   pub fits : CutFits (parts_of l.state) job.limits old.supply cut
   pub supply : mid.supply ≡ old.supply

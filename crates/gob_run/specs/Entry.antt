@@ -11,7 +11,7 @@ use Rattle.gob_ledger.specs.Units.{first_shrunk, new_units, next_of, range_count
 use Rattle.gob_recovery.specs.Laws.{NoTornSequence}
 use Rattle.gob_recovery.specs.Settle.{IsDamaged, Settles, SettlesAs}
 use Rattle.gob_history.specs.Runs.{state_or_empty}
-use Rattle.gob_seq.specs.Maps.{SettlesByName}
+use Rattle.gob_seq.specs.Maps.{OnlyUnstages, SettlesByName}
 use Rattle.gob_run.specs.declared.fault.RunFault.{RunFault}
 use Rattle.gob_run.specs.declared.fault.RunFault.TheVariants.{Damaged, Shrunk, Full}
 
@@ -30,22 +30,21 @@ abbrev pub SettleAlike : List ℕ → Files → List Files → Type 0
 SettleAlike job m added = (settled : Files) → NoTornSequence job m → Settles job m settled
     → EachOf (SettlesAs job settled) added
 
--- the files are settled, and nothing else was changed
-pub record SettledTo (job : List ℕ) (d e : Disk) : Type 0 where
-  pub added : List Files
-  pub trail : e.trail ≡ d.trail ++ added
-  pub stands : e.files ≡ last_map d.files added
-  pub alike : SettleAlike job d.files added
-  pub settles : Settles job d.files e.files
-
 -- nothing was changed but what settling changes: outside the staging each name but the open sequence's holds what it
--- held, or what settling leaves there; where settling was stopped the files may not be settled yet
+-- held, or what settling leaves there, and a staged one what it held, or nothing; where settling was stopped the files
+-- may not be settled yet
 pub record OnlySettled (job : List ℕ) (d e : Disk) : Type 0 where
   pub added : List Files
   pub trail : e.trail ≡ d.trail ++ added
   pub stands : e.files ≡ last_map d.files added
   pub alike : SettleAlike job d.files added
   pub names : EachOf (SettlesByName job d.files) added
+  pub staged : EachOf (OnlyUnstages job d.files) added
+
+-- the files are settled, and nothing else was changed
+pub record SettledTo (job : List ℕ) (d e : Disk) : Type 0 where
+  pub only : OnlySettled job d e
+  pub settles : Settles job d.files e.files
 
 -- a file of the job can't be read: the open sequence, and then nothing was changed, or, once that is done, the state
 pub data LeftBroken (job name : List ℕ) (d e : Disk) : Type 0 where

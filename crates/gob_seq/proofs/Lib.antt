@@ -1,4 +1,5 @@
 pub mod Trails
+pub mod Unstaged
 pub mod Fronts
 pub mod Resettled
 pub mod GoingOver

@@ -95,6 +95,10 @@ SettlesByName job m n = (settled : Files) → Settles job m settled → HoldsOne
 abbrev pub CommitsByName : List ℕ → List CommitStep → Files → Files → Type 0
 CommitsByName job steps m n = HoldsOneOf job m (do_steps steps m) n
 
+-- each staged name holds what it held, or nothing
+abbrev pub OnlyUnstages : List ℕ → Files → Files → Type 0
+OnlyUnstages job m n = (name : List ℕ) → begins_with (staging job) name ≡ true → (n name ≡ m name) ⊎ (n name ≡ None)
+
 -- ---- a file that is written
 
 -- a file that holds these bytes, all of them kept

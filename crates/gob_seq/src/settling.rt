@@ -8,7 +8,7 @@ ghost use Rattle.gob_recovery.specs.Commits.{OnlyBelow};
 ghost use Rattle.gob_recovery.specs.Sequence.{WellFormed};
 ghost use Rattle.gob_recovery.specs.Settle.{IsDamaged, Settles};
 ghost use Rattle.gob_seq.specs.Maps.{Becomes, CanFinish, GoesOn, ImagesSettleTheSame, SettlesByName, SettlesTheSame};
-ghost use Rattle.gob_seq.specs.Maps.{SettlesUnstaged};
+ghost use Rattle.gob_seq.specs.Maps.{OnlyUnstages, SettlesUnstaged};
 ghost use Rattle.gob_seq.specs.Faults.{DamageDue, Damages, RoseIfSettleFailed};
 
 use crate::SettleFault;
@@ -34,6 +34,7 @@ pub fn settle<V: Volume>(alloc: Global, volume: &mut V, job: &str) -> Result<Set
     ensures same { Along (SettlesTheSame job.now) (V.disk volume.old) (V.disk volume.new) }
     ensures images { Along (ImagesSettleTheSame job.now) (V.disk volume.old) (V.disk volume.new) }
     ensures readers { Along (SettlesByName job.now) (V.disk volume.old) (V.disk volume.new) }
+    ensures unstages { Along (OnlyUnstages job.now) (V.disk volume.old) (V.disk volume.new) }
     ensures ok { OnOk result (AddsMaps (Becomes (Settles job.now)) (V.disk volume.old) (V.disk volume.new)) }
     ensures was_open { IfOk result (λ s. IfSome (V.disk volume.old)
         (λ d. s.was_open ≡ is_some (d.files (sequence_name job.now)))) }
@@ -54,6 +55,7 @@ fn finish_open<V: Volume>(alloc: Global, volume: &mut V, job: &str) -> Result<bo
     requires named { IsPathname job.now }
     ensures goes { Along (GoesOn job.now) (V.disk volume.old) (V.disk volume.new) }
     ensures readers { Along (SettlesByName job.now) (V.disk volume.old) (V.disk volume.new) }
+    ensures unstages { Along (OnlyUnstages job.now) (V.disk volume.old) (V.disk volume.new) }
     ensures ok { OnOk result (AddsMaps (Becomes (SettlesUnstaged job.now)) (V.disk volume.old) (V.disk volume.new)) }
     ensures was_open { IfOk result (λ was. IfSome (V.disk volume.old)
         (λ d. was ≡ is_some (d.files (sequence_name job.now)))) }

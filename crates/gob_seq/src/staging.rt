@@ -9,7 +9,7 @@ ghost use Rattle.gob_recovery.specs.Commits.{OnlyBelow};
 ghost use Rattle.gob_recovery.specs.Sequence.{remove};
 ghost use Rattle.gob_recovery.specs.Settle.{do_steps, without_staging};
 ghost use Rattle.gob_seq.specs.Faults.{RoseIfFailed};
-ghost use Rattle.gob_seq.specs.Maps.{EndsAs, IsFront};
+ghost use Rattle.gob_seq.specs.Maps.{EndsAs, IsFront, OnlyUnstages};
 
 use crate::CommitFault;
 use crate::place::Place;
@@ -20,6 +20,7 @@ use std::alloc::Global;
 /// Takes away all that is staged for the job.
 pub fn clean_staging<V: Volume>(alloc: Global, volume: &mut V, job: &str) -> Result<(), CommitFault>
     ensures below { Along (OnlyBelow (staging job.now)) (V.disk volume.old) (V.disk volume.new) }
+    ensures unstages { Along (OnlyUnstages job.now) (V.disk volume.old) (V.disk volume.new) }
     ensures ok { OnOk result (AddsMaps (EndsAs (without_staging job.now)) (V.disk volume.old) (V.disk volume.new)) }
     ensures err { IfErr result (RoseIfFailed (V.faults volume.old) (V.faults volume.new)) }
     ensures goes_on { V.faults volume.old ≤ V.faults volume.new }

@@ -5,12 +5,12 @@ use Rattle.std.specs.declared.option.Option.{Option}
 use Rattle.std.specs.declared.result.Result.{Result}
 use Rattle.std.specs.declared.result.Result.TheVariants.{Ok, Err}
 use Rattle.gob_bytes.specs.Paths.{sequence_name, under}
-use Rattle.gob_device.specs.Disk.{AddsMaps, Along, Both, Disk, EachFrom, EachOf, Files, Went, last_map}
-use Rattle.gob_device.proofs.Trail.{each-map, maps_map}
+use Rattle.gob_device.specs.Disk.{AddsMaps, Along, Both, Disk, EachFrom, Files, Went, last_map}
+use Rattle.gob_device.proofs.Trail.{maps_map}
 use Rattle.gob_recovery.specs.Commits.{OnlyBelow}
-use Rattle.gob_recovery.specs.Settle.{IsDamaged, Settles, SettlesAs}
+use Rattle.gob_recovery.specs.Settle.{IsDamaged, Settles}
 use Rattle.gob_seq.specs.Faults.{DamageDue, Damages, RoseIfSettleFailed}
-use Rattle.gob_seq.specs.Maps.{Becomes, ImagesSettleTheSame, SettlesByName}
+use Rattle.gob_seq.specs.Maps.{Becomes, ImagesSettleTheSame, OnlyUnstages, SettlesByName}
 use Rattle.gob_seq.specs.declared.faults.SettleFault.{SettleFault}
 use Rattle.gob_seq.specs.declared.faults.SettleFault.TheVariants as settle
 use Rattle.gob_seq.specs.declared.settling.Settled.{Settled}
@@ -19,14 +19,14 @@ use Rattle.gob_segments.specs.declared.change.Loaded.{Loaded}
 use Rattle.gob_texts.specs.Commands.{recovery_report, state_report}
 use Rattle.gob_texts.specs.Refusals as texts
 use Rattle.gob_run.specs.Answers as run
-use Rattle.gob_run.specs.Entry.{Entry, IsBroken, LeftBroken, SettleAlike, SettledTo}
+use Rattle.gob_run.specs.Entry.{Entry, IsBroken, LeftBroken, OnlySettled, SettledTo}
 use Rattle.gob_run.specs.Faults.{BeginsNot, Finds}
 use Rattle.gob_run.specs.World.{WhereFiled, World}
 use Rattle.gob_run.specs.declared.fault.RunFault.{RunFault}
 use Rattle.gob_run.specs.declared.fault.RunFault.TheVariants as fault
 use Rattle.gob_run.proofs.Entering.{settling_trail}
 use Rattle.gob_run.proofs.Readers.{readers_of_settling}
-use Rattle.gob_run.proofs.Settled.{settled_to, AllSettle}
+use Rattle.gob_run.proofs.Settled.{OnlySettle, only_settled, settle_alike, settled_to}
 use Rattle.gob_top.specs.Answers.{Told, refused}
 use Rattle.gob_top.specs.Faults.{settle_refusal}
 use Rattle.gob_top.specs.Runs.{run_refusal}
@@ -48,11 +48,6 @@ where_filed {Q} P w old new before now weaker a = λ d here. told old new a.told
     told (Some c) (Some e) b d here =
         let same : c ≡ d = cc in (e, refl, subst (λ x. P x e) same (weaker c e b))
 
-settle_alike : (job : List ℕ) (m : Files) (added : List Files) → EachOf (ImagesSettleTheSame job m) added
-    → SettleAlike job m added
-settle_alike job m added each = λ settled quiet settles.
-    each-map (ImagesSettleTheSame job m) (SettlesAs job settled) added (λ n same. same settled quiet settles) each
-
 -- each map settles as the first one does, and holds by name what that one or the settled one does
 abbrev SettleBoth : List ℕ → Files → List Files → Type 0
 SettleBoth job m added = EachFrom (ImagesSettleTheSame job) m added × EachFrom (SettlesByName job) m added
@@ -72,13 +67,19 @@ trail_settles job d e w = record {
 pub record OnItsWay (job : List ℕ) (old new : Option Disk) (before now : ℕ) : Type 0 where
   pub images : Along (ImagesSettleTheSame job) old new
   pub names : Along (SettlesByName job) old new
+  pub staged : Along (OnlyUnstages job) old new
   pub below : Along (OnlyBelow (under job [])) old new
   pub later : before ≤ now
+
+on_its_way : {job : List ℕ} {old new : Option Disk} {before now : ℕ} → OnItsWay job old new before now
+    → AddsMaps (OnlySettle job) old new
+on_its_way way = maps_both way.images (maps_both way.names way.staged)
 
 only_settles : (job : List ℕ) (w : World) (old new : Option Disk) (before now : ℕ) → OnItsWay job old new before now
     → OnlySettles job (filed w old before) (filed w new now)
 only_settles job w old new before now way = record {
   trail = where_filed (SettlingTrail job) w old new before now (trail_settles job) (maps_both way.images way.names);
+  only = where_filed (OnlySettled job) w old new before now (only_settled job) (on_its_way way);
   below = way.below;
   source = record { supply = refl; faults = refl; planned = refl };
   goes_on = record { source = omega arith; planned = omega arith; volume = way.later };
@@ -151,7 +152,7 @@ pub all_recovered : (job : List ℕ) (w : World) (old new : Option Disk) (before
     → RecoverAnswered job (filed w old before) (filed w new now) t
 all_recovered job w old new before now s t way due settles was tells = record {
   caused = recovered s.was_open was
-      (where_filed (SettledTo job) w old new before now (settled_to job) (maps_both settles way.images)) (inl tells);
+      (where_filed (SettledTo job) w old new before now (settled_to job) (maps_both settles (on_its_way way))) (inl tells);
   due = settled_due job old new s t due;
   settles = only_settles job w old new before now way;
 }
@@ -246,7 +247,7 @@ pub all_reported : (job : List ℕ) (w : World) (old new : Option Disk) (before 
     → t ≡ (0, state_report job l.state) → ReportAnswered job (filed w old before) (filed w new now) t
 all_reported job w old new before now l t way due finds tells = record {
   caused = reported l.state (entry_is job l old new finds)
-      (where_filed (SettledTo job) w old new before now (settled_to job) (maps_both settles way.images)) (inl tells);
+      (where_filed (SettledTo job) w old new before now (settled_to job) (maps_both settles (on_its_way way))) (inl tells);
   due = loaded_due job old l t due;
   settles = only_settles job w old new before now way;
 }

@@ -10,7 +10,7 @@ use Rattle.gob_recovery.specs.Commits.{OnlyBelow}
 use Rattle.gob_recovery.specs.Settle.{IsDamaged}
 use Rattle.gob_history.specs.Runs.{TrailOfSettling}
 use Rattle.gob_run.specs.Answers.{ReadersOfSettling}
-use Rattle.gob_run.specs.Entry.{Entry, IsBroken, LeftBroken, SettledTo}
+use Rattle.gob_run.specs.Entry.{Entry, IsBroken, LeftBroken, OnlySettled, SettledTo}
 use Rattle.gob_run.specs.World.{GoesOn, WhereFiled, World}
 use Rattle.gob_texts.specs.Commands.{recovery_report, state_report}
 use Rattle.gob_texts.specs.Refusals as texts
@@ -28,6 +28,7 @@ pub record SettlingTrail (job : List ℕ) (d e : Disk) : Type 0 where
 -- whatever is told
 pub record OnlySettles (job : List ℕ) (old new : World) : Type 0 where
   pub trail : WhereFiled (SettlingTrail job) old new
+  pub only : WhereFiled (OnlySettled job) old new
   pub below : Along (OnlyBelow (under job [])) old.disk new.disk
   pub source : NoSourceCall old new
   pub goes_on : GoesOn old new

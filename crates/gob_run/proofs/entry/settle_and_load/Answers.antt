@@ -5,7 +5,8 @@ use Rattle.std.specs.declared.result.Result.TheVariants.{Err}
 use Rattle.gob_bytes.specs.Paths.{under}
 use Rattle.gob_device.specs.Disk.{Along}
 use Rattle.gob_recovery.specs.Commits.{OnlyBelow}
-use Rattle.gob_seq.specs.Maps.{ImagesSettleTheSame, SettlesByName}
+use Rattle.gob_seq.specs.Maps.{ImagesSettleTheSame, OnlyUnstages, SettlesByName}
+use Rattle.gob_seq.proofs.Trails.{maps_both}
 use Rattle.gob_segments.specs.declared.change.Loaded.{Loaded}
 use Rattle.gob_run.specs.Faults.{BeginsNot, run_of_load, run_of_settle}
 use Rattle.gob_run.specs.declared.fault.RunFault.{RunFault}
@@ -45,7 +46,8 @@ returns-in_err-loaded-clause-stopped g c =
     stops_with (BeginsNot c.args.job.now (g.V.Volume.disk c.args.volume.now) (g.V.Volume.disk c.load.new.volume)
     (g.V.Volume.faults c.args.volume.now) (g.V.Volume.faults c.load.new.volume)) c.from_residual-in_err-loaded.result
     (run_of_load c.in_err-loaded.field-0.0) p.0 p.1 p.2
-    (load_stops c.args.job.now _ _ _ c.in_err-loaded.field-0.0 c.in_ok-settle.ensures.ok c.settle.ensures.images
+    (load_stops c.args.job.now _ _ _ c.in_err-loaded.field-0.0 c.in_ok-settle.ensures.ok
+    (maps_both c.settle.ensures.images (maps_both c.settle.ensures.readers c.settle.ensures.unstages))
     c.load.ensures.disk c.in_err-loaded.ensures.damaged c.settle.ensures.goes_on c.in_err-loaded.ensures.err)
 
 pub returns-in_err-loaded-clause-due : goal.returns-in_err-loaded-clause-due
@@ -84,3 +86,13 @@ pub returns-clause-readers : goal.returns-clause-readers
 returns-clause-readers g c =
     subst (Along (SettlesByName c.args.job.now) (g.V.Volume.disk c.args.volume.now)) (sym c.load.ensures.disk)
     c.settle.ensures.readers
+
+pub returns-in_err-loaded-clause-unstages : goal.returns-in_err-loaded-clause-unstages
+returns-in_err-loaded-clause-unstages g c =
+    subst (Along (OnlyUnstages c.args.job.now) (g.V.Volume.disk c.args.volume.now)) (sym c.load.ensures.disk)
+    c.settle.ensures.unstages
+
+pub returns-clause-unstages : goal.returns-clause-unstages
+returns-clause-unstages g c =
+    subst (Along (OnlyUnstages c.args.job.now) (g.V.Volume.disk c.args.volume.now)) (sym c.load.ensures.disk)
+    c.settle.ensures.unstages

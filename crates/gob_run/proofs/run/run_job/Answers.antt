@@ -38,6 +38,7 @@ returns-in_err-loaded g c =
     (record {
       alike = c.settle_and_load.ensures.alike;
       names = c.settle_and_load.ensures.readers;
+      staged = c.settle_and_load.ensures.unstages;
       below = c.settle_and_load.ensures.below;
       later = c.settle_and_load.ensures.goes_on;
     }) in
@@ -52,6 +53,7 @@ returns-in_err-loaded g c =
     (record {
       alike = says.alike;
       names = says.names;
+      staged = says.staged;
       below = says.below;
       unpulled = refl;
       goes_on = record { source = omega arith; planned = omega arith; volume = says.later };
@@ -80,6 +82,7 @@ returns-in_err-cut g c =
     (record {
       alike = c.settle_and_load.ensures.alike;
       names = c.settle_and_load.ensures.readers;
+      staged = c.settle_and_load.ensures.unstages;
       below = c.settle_and_load.ensures.below;
       later = c.settle_and_load.ensures.goes_on;
     }) in
@@ -95,6 +98,7 @@ returns-in_err-cut g c =
     (record {
       alike = says.alike;
       names = says.names;
+      staged = says.staged;
       below = says.below;
       unpulled = c.cut_over.ensures.supply;
       goes_on = record {
@@ -141,6 +145,7 @@ returns-in_err-outcome g c =
     (record {
       alike = c.settle_and_load.ensures.alike;
       names = c.settle_and_load.ensures.readers;
+      staged = c.settle_and_load.ensures.unstages;
       below = c.settle_and_load.ensures.below;
       later = c.settle_and_load.ensures.goes_on;
     }) in
@@ -157,6 +162,7 @@ returns-in_err-outcome g c =
       found = found;
       alike = says.alike;
       names = says.names;
+      staged = says.staged;
       below = says.below;
       fits = c.in_ok-cut.ensures.cut;
       supply = c.cut_over.ensures.supply;
@@ -197,6 +203,7 @@ returns g c =
     (record {
       alike = c.settle_and_load.ensures.alike;
       names = c.settle_and_load.ensures.readers;
+      staged = c.settle_and_load.ensures.unstages;
       below = c.settle_and_load.ensures.below;
       later = c.settle_and_load.ensures.goes_on;
     }) in
@@ -210,6 +217,7 @@ returns g c =
       found = found;
       alike = says.alike;
       names = says.names;
+      staged = says.staged;
       below = says.below;
       fits = c.in_ok-cut.ensures.cut;
       supply = c.cut_over.ensures.supply;

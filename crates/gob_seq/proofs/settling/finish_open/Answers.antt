@@ -8,7 +8,7 @@ use Rattle.gob_device.proofs.Trail.{along_nothing}
 use Rattle.gob_recovery.specs.Commits.{OnlyBelow}
 use Rattle.gob_recovery.specs.Sequence.{CommitStep}
 use Rattle.gob_seq.specs.Faults.{Damages}
-use Rattle.gob_seq.specs.Maps.{Becomes, GoesOn, SettlesByName, SettlesUnstaged}
+use Rattle.gob_seq.specs.Maps.{Becomes, GoesOn, OnlyUnstages, SettlesByName, SettlesUnstaged}
 use Rattle.gob_seq.specs.Steps.{is_callable}
 use Rattle.gob_seq.specs.declared.place.Place.{Place}
 use Rattle.gob_seq.proofs.ByNames.{done_becomes, done_below, done_goes}
@@ -16,6 +16,7 @@ use Rattle.gob_seq.proofs.Named.{callable, sequence_named}
 use Rattle.gob_seq.proofs.Readers.{done_read}
 use Rattle.gob_seq.proofs.Resettled.{becomes_undamaged, can_undamaged, closed_becomes, closed_was, err_damages, err_due}
 use Rattle.gob_seq.proofs.Resettled.{open_was, undamaged_due}
+use Rattle.gob_seq.proofs.Unstaged.{done_unstages}
 use Rattle.gob_seq.proofs.settling.finish_open.Goals as goal
 
 pub returns-in_err-place-clause-goes : goal.returns-in_err-place-clause-goes
@@ -190,3 +191,30 @@ returns-in_default-clause-due g c =
     let none = rw c.in_default.is at c.in_ok-sequence.ensures.found in
     undamaged_due c.args.job.now _ _ _ (becomes_undamaged c.args.job.now _ _
     (closed_becomes c.args.job.now _ _ opened none))
+
+pub returns-in_err-place-clause-unstages : goal.returns-in_err-place-clause-unstages
+returns-in_err-place-clause-unstages g c = along_nothing (OnlyUnstages c.args.job.now) _
+
+pub returns-in_err-sequence-clause-unstages : goal.returns-in_err-sequence-clause-unstages
+returns-in_err-sequence-clause-unstages g c =
+    subst (Along (OnlyUnstages c.args.job.now) (g.V.Volume.disk c.args.volume.now)) (sym c.open_sequence.ensures.disk)
+    (along_nothing (OnlyUnstages c.args.job.now) _)
+
+pub returns-in_default-clause-unstages : goal.returns-in_default-clause-unstages
+returns-in_default-clause-unstages g c =
+    subst (Along (OnlyUnstages c.args.job.now) (g.V.Volume.disk c.args.volume.now)) (sym c.open_sequence.ensures.disk)
+    (along_nothing (OnlyUnstages c.args.job.now) _)
+
+pub returns-in_err-finish-clause-unstages : goal.returns-in_err-finish-clause-unstages
+returns-in_err-finish-clause-unstages g c =
+    let opened : c.as_str-opened.result.now ≡ sequence_name c.args.job.now =
+    c.as_str-opened.ensures ∙ ap (λ (p : Place). p.sequence) c.in_ok-place.ensures in
+    done_unstages c.args.job.now _ c.in-Some.sequence _ opened c.steps.ensures c.open_sequence.ensures.disk
+    (rw c.in-Some.is at c.in_ok-sequence.ensures.fits) c.finish.ensures.maps
+
+pub returns-clause-unstages : goal.returns-clause-unstages
+returns-clause-unstages g c =
+    let opened : c.as_str-opened.result.now ≡ sequence_name c.args.job.now =
+    c.as_str-opened.ensures ∙ ap (λ (p : Place). p.sequence) c.in_ok-place.ensures in
+    done_unstages c.args.job.now _ c.in-Some.sequence _ opened c.steps.ensures c.open_sequence.ensures.disk
+    (rw c.in-Some.is at c.in_ok-sequence.ensures.fits) c.finish.ensures.maps

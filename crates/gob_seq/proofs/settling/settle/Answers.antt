@@ -5,11 +5,12 @@ use Rattle.gob_device.proofs.Trail.{along_map, along_then}
 use Rattle.gob_recovery.specs.Commits.{OnlyBelow}
 use Rattle.gob_recovery.proofs.Commits.{below_then}
 use Rattle.gob_seq.specs.Faults.{Damages, settle_of_commit}
-use Rattle.gob_seq.specs.Maps.{GoesOn, ImagesSettleTheSame, SettlesTheSame}
+use Rattle.gob_seq.specs.Maps.{GoesOn, ImagesSettleTheSame, OnlyUnstages, SettlesTheSame}
 use Rattle.gob_seq.proofs.Named.{below_job}
 use Rattle.gob_seq.proofs.Readers.{settles_read_cleaned}
 use Rattle.gob_seq.proofs.Resettled.{becomes_undamaged, commit_damages, commit_rose, due_again, err_damages}
 use Rattle.gob_seq.proofs.Resettled.{goes_cleaned, goes_images, rose_again, settles_cleaned, undamaged_due}
+use Rattle.gob_seq.proofs.Unstaged.{unstages_then}
 use Rattle.gob_seq.proofs.settling.settle.Goals as goal
 
 pub returns-in_err-was_open-clause-same : goal.returns-in_err-was_open-clause-same
@@ -108,3 +109,13 @@ returns-clause-below g c =
     let job = c.args.job.now in
     along_then (OnlyBelow (under job [])) (below_then (under job [])) c.finish_open.ensures.below
     (along_map (OnlyBelow (staging job)) (OnlyBelow (under job [])) (below_job job) c.clean_staging.ensures.below)
+
+pub returns-in_err-clean_staging-clause-unstages : goal.returns-in_err-clean_staging-clause-unstages
+returns-in_err-clean_staging-clause-unstages g c =
+    along_then (OnlyUnstages c.args.job.now) (unstages_then c.args.job.now) c.finish_open.ensures.unstages
+    c.clean_staging.ensures.unstages
+
+pub returns-clause-unstages : goal.returns-clause-unstages
+returns-clause-unstages g c =
+    along_then (OnlyUnstages c.args.job.now) (unstages_then c.args.job.now) c.finish_open.ensures.unstages
+    c.clean_staging.ensures.unstages
