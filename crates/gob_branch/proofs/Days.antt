@@ -9,7 +9,7 @@ use Rattle.std.proofs.lemmas.Str.{IsUtf8-from_ascii}
 use Rattle.std.proofs.lemmas.Str.Ascii.{IsAscii-nil, IsAscii-cons}
 use Rattle.std.specs.List.{list_all}
 use Rattle.std.specs.Str.{IsUtf8, IsAscii}
-use Rattle.gob_bytes.specs.Digits.{padded}
+use Rattle.gob_bytes.specs.Digits.{padded_digits}
 use Rattle.gob_bytes.specs.Escapes.{is_letter, is_digit, is_plain}
 use Rattle.gob_plan.specs.declared.rows.Row.{Row}
 use Rattle.gob_plan.specs.declared.rows.Value.{Value}
@@ -29,17 +29,17 @@ is_day_byte b = nat_le 47 b && nat_le b 57
 digit_in : (n : ℕ) → is_day_byte (48 + n % 10) ≡ true
 digit_in n = and_from _ _ (le-leb 47 (48 + n % 10) (omega arith)) (le-leb (48 + n % 10) 57 (omega arith))
 
-padded_in : (k n : ℕ) → list_all is_day_byte (padded k n) ≡ true
-unfolding padded
+padded_in : (k n : ℕ) → list_all is_day_byte (padded_digits k n) ≡ true
+unfolding padded_digits
 padded_in zero n = refl
-padded_in (suc k) n = list_all-append is_day_byte (padded k (n / 10)) ((48 + n % 10) ∷ [])
+padded_in (suc k) n = list_all-append is_day_byte (padded_digits k (n / 10)) ((48 + n % 10) ∷ [])
     ∙ and_from _ _ (padded_in k (n / 10)) (and_from _ _ (digit_in n) refl)
 
 date_in : (date : Date) → list_all is_day_byte (date_folder date) ≡ true
 date_in date =
-    let year = padded 4 date.year in
-    let month = padded 2 date.month in
-    let day = padded 2 date.day in
+    let year = padded_digits 4 date.year in
+    let month = padded_digits 2 date.month in
+    let day = padded_digits 2 date.day in
     list_all-append is_day_byte (year ++ 47 ∷ month ++ 47 ∷ day) (47 ∷ [])
     ∙ and_from _ _
     (list_all-append is_day_byte (year ++ 47 ∷ month) (47 ∷ day)

@@ -9,19 +9,19 @@ use Rattle.gob_meaning.specs.Fold.{kill_or}
 use Rattle.gob_branch.specs.declared.items.ItemEnd.{ItemEnd}
 use Rattle.gob_branch.specs.declared.items.ItemEnd.TheVariants.{Written, Error, Killed}
 use Rattle.gob_branch.specs.declared.items.Span.{Span}
-use Rattle.gob_branch.specs.ItemSpans.{between, end_made, row_made, span_made, rows_made, IsWithin, AreWithin}
+use Rattle.gob_branch.specs.ItemSpans.{bytes_between, end_made, row_made, span_made, rows_made, ItemIsWithin, ItemsAreWithin}
 
 -- what stands between two places stays, whatever comes behind
-pub between-append : (from to : ℕ) (xs ys : List ℕ) → from ≤ to → to ≤ length xs →
-    between from to (xs ++ ys) ≡ between from to xs
-between-append from to xs ys low high =
+pub bytes_between-append : (from to : ℕ) (xs ys : List ℕ) → from ≤ to → to ≤ length xs →
+    bytes_between from to (xs ++ ys) ≡ bytes_between from to xs
+bytes_between-append from to xs ys low high =
     let within : to - from ≤ length (drop from xs) =
     subst (λ n. to - from ≤ n) (sym (length-drop from xs)) (omega arith) in
     ap (take (to - from)) (drop-append-le from xs ys (omega arith))
     ∙ take-append-le (to - from) (drop from xs) ys within
 
 -- what was added last
-pub between_last : (xs ys : List ℕ) → between (length xs) (length (xs ++ ys)) (xs ++ ys) ≡ ys
+pub between_last : (xs ys : List ℕ) → bytes_between (length xs) (length (xs ++ ys)) (xs ++ ys) ≡ ys
 between_last xs ys = ap₂ take (ap (λ n. n - length xs) (length-append xs ys) ∙ omega arith) (drop-length xs ys)
     ∙ take_all (length ys) ys (omega arith)
   where
@@ -29,25 +29,25 @@ between_last xs ys = ap₂ take (ap (λ n. n - length xs) (length-append xs ys) 
     drop-length [] b = refl
     drop-length (x ∷ a) b = drop-length a b
 
-pub within-append : (xs ys : List ℕ) (s : Span) → IsWithin xs s → IsWithin (xs ++ ys) s
+pub within-append : (xs ys : List ℕ) (s : Span) → ItemIsWithin xs s → ItemIsWithin (xs ++ ys) s
 within-append xs ys s w = record {
   place = w.place;
   placed = w.placed;
   end = subst (λ n. s.record_end ≤ n) (sym (length-append xs ys)) (omega arith);
-  text = subst IsUtf8 (sym (between-append s.place_start s.place_end xs ys w.place (omega arith))) w.text;
+  text = subst IsUtf8 (sym (bytes_between-append s.place_start s.place_end xs ys w.place (omega arith))) w.text;
 }
 
-pub span_made-append : (xs ys : List ℕ) (s : Span) → IsWithin xs s → span_made (xs ++ ys) s ≡ span_made xs s
+pub span_made-append : (xs ys : List ℕ) (s : Span) → ItemIsWithin xs s → span_made (xs ++ ys) s ≡ span_made xs s
 span_made-append xs ys s w = ap₂ (λ p r. row_made s.branch p s.optional s.end r)
-    (between-append s.place_start s.place_end xs ys w.place (omega arith))
-    (between-append s.place_end s.record_end xs ys w.placed w.end)
+    (bytes_between-append s.place_start s.place_end xs ys w.place (omega arith))
+    (bytes_between-append s.place_end s.record_end xs ys w.placed w.end)
 
 -- one more item behind the others, whose bytes are at the buffer's end
 pub record Pushed (xs ys : List ℕ) (ss : List Span) (s : Span) : Type 0 where
-  pub within : AreWithin (xs ++ ys) (ss ++ s ∷ [])
+  pub within : ItemsAreWithin (xs ++ ys) (ss ++ s ∷ [])
   pub made : rows_made (xs ++ ys) (ss ++ s ∷ []) ≡ rows_made xs ss ++ span_made (xs ++ ys) s ∷ []
 
-pub pushed : (xs ys : List ℕ) (ss : List Span) (s : Span) → AreWithin xs ss → IsWithin (xs ++ ys) s → Pushed xs ys ss s
+pub pushed : (xs ys : List ℕ) (ss : List Span) (s : Span) → ItemsAreWithin xs ss → ItemIsWithin (xs ++ ys) s → Pushed xs ys ss s
 pushed xs ys [] s all w = record { within = (w, tt); made = refl }
 pushed xs ys (t ∷ ts) s all w = let p = pushed xs ys ts s all.1 w in record {
   within = (within-append xs ys t all.0, p.within);
@@ -55,20 +55,20 @@ pushed xs ys (t ∷ ts) s all w = let p = pushed xs ys ts s all.1 w in record {
 }
 
 -- the last but one part of a buffer that grew by two
-pub between_middle : (xs ys zs : List ℕ) → between (length xs) (length (xs ++ ys)) ((xs ++ ys) ++ zs) ≡ ys
+pub between_middle : (xs ys zs : List ℕ) → bytes_between (length xs) (length (xs ++ ys)) ((xs ++ ys) ++ zs) ≡ ys
 between_middle xs ys zs =
     let up : length xs ≤ length (xs ++ ys) = subst (λ n. length xs ≤ n) (sym (length-append xs ys)) (omega arith) in
-    between-append (length xs) (length (xs ++ ys)) (xs ++ ys) zs up (omega arith) ∙ between_last xs ys
+    bytes_between-append (length xs) (length (xs ++ ys)) (xs ++ ys) zs up (omega arith) ∙ between_last xs ys
 
 -- the item of a place and a record was put behind the others
 pub record PushedItem (xs place bytes : List ℕ) (ss : List Span) (s : Span) (all : List ℕ) (spans : List Span) : Type 0
   where
-    pub within : AreWithin all spans
+    pub within : ItemsAreWithin all spans
     pub made : rows_made all spans ≡ rows_made xs ss ++ row_made s.branch place s.optional s.end bytes ∷ []
 
 pub last_within : (xs place bytes : List ℕ) (s : Span) → IsUtf8 place → s.place_start ≡ length xs
     → s.place_end ≡ length (xs ++ place) → s.record_end ≡ length ((xs ++ place) ++ bytes)
-    → IsWithin ((xs ++ place) ++ bytes) s
+    → ItemIsWithin ((xs ++ place) ++ bytes) s
 last_within xs place bytes s text starts ends all =
     let first : length (xs ++ place) ≡ length xs + length place = length-append xs place in
     let second : length ((xs ++ place) ++ bytes) ≡ length (xs ++ place) + length bytes =
@@ -77,7 +77,7 @@ last_within xs place bytes s text starts ends all =
       place = omega arith;
       placed = omega arith;
       end = omega arith;
-      text = subst IsUtf8 (sym (ap₂ (λ i j. between i j ((xs ++ place) ++ bytes)) starts ends
+      text = subst IsUtf8 (sym (ap₂ (λ i j. bytes_between i j ((xs ++ place) ++ bytes)) starts ends
           ∙ between_middle xs place bytes)) text;
     }
 
@@ -85,21 +85,21 @@ pub last_made : (xs place bytes : List ℕ) (s : Span) → s.place_start ≡ len
     → s.place_end ≡ length (xs ++ place) → s.record_end ≡ length ((xs ++ place) ++ bytes)
     → span_made ((xs ++ place) ++ bytes) s ≡ row_made s.branch place s.optional s.end bytes
 last_made xs place bytes s starts ends all = ap₂ (λ p r. row_made s.branch p s.optional s.end r)
-    (ap₂ (λ i j. between i j ((xs ++ place) ++ bytes)) starts ends ∙ between_middle xs place bytes)
-    (ap₂ (λ i j. between i j ((xs ++ place) ++ bytes)) ends all ∙ between_last (xs ++ place) bytes)
+    (ap₂ (λ i j. bytes_between i j ((xs ++ place) ++ bytes)) starts ends ∙ between_middle xs place bytes)
+    (ap₂ (λ i j. bytes_between i j ((xs ++ place) ++ bytes)) ends all ∙ between_last (xs ++ place) bytes)
 
-pub pushed_item : (xs place bytes all : List ℕ) (ss spans : List Span) (s : Span) → AreWithin xs ss → IsUtf8 place
+pub pushed_item : (xs place bytes all : List ℕ) (ss spans : List Span) (s : Span) → ItemsAreWithin xs ss → IsUtf8 place
     → all ≡ (xs ++ place) ++ bytes → spans ≡ ss ++ s ∷ [] → s.place_start ≡ length xs
     → s.place_end ≡ length (xs ++ place) → s.record_end ≡ length ((xs ++ place) ++ bytes)
     → PushedItem xs place bytes ss s all spans
 pushed_item xs place bytes all ss spans s kept text is_all is_spans starts ends ended =
     let w = last_within xs place bytes s text starts ends ended in
     let grown : (xs ++ place) ++ bytes ≡ xs ++ (place ++ bytes) = append_assoc xs place bytes in
-    let p = pushed xs (place ++ bytes) ss s kept (subst (λ l. IsWithin l s) grown w) in
+    let p = pushed xs (place ++ bytes) ss s kept (subst (λ l. ItemIsWithin l s) grown w) in
     let now : all ≡ xs ++ (place ++ bytes) = is_all ∙ grown in
     record {
-      within = subst (λ l. AreWithin l spans) (sym now)
-          (subst (AreWithin (xs ++ (place ++ bytes))) (sym is_spans) p.within);
+      within = subst (λ l. ItemsAreWithin l spans) (sym now)
+          (subst (ItemsAreWithin (xs ++ (place ++ bytes))) (sym is_spans) p.within);
       made = ap₂ rows_made now is_spans ∙ p.made
           ∙ ap (λ r. rows_made xs ss ++ r ∷ []) (ap (λ l. span_made l s) (sym grown)
           ∙ last_made xs place bytes s starts ends ended);
@@ -111,16 +111,16 @@ pub rows_length : (bytes : List ℕ) (ss : List Span) → length (rows_made byte
 rows_length bytes [] = refl
 rows_length bytes (s ∷ ss) = ap suc (rows_length bytes ss)
 
-pub within_at : (bytes : List ℕ) (ss : List Span) (i : ℕ) (s : Span) → AreWithin bytes ss → i < length ss
-    → s ≡ get_or ss i s → IsWithin bytes s
+pub within_at : (bytes : List ℕ) (ss : List Span) (i : ℕ) (s : Span) → ItemsAreWithin bytes ss → i < length ss
+    → s ≡ get_or ss i s → ItemIsWithin bytes s
 within_at bytes [] i s all lt e = absurd (omega arith)
-within_at bytes (t ∷ ts) zero s all lt e = subst (IsWithin bytes) (sym e) all.0
+within_at bytes (t ∷ ts) zero s all lt e = subst (ItemIsWithin bytes) (sym e) all.0
 within_at bytes (t ∷ ts) (suc i) s all lt e = within_at bytes ts i s all.1 (omega arith) e
 
 pub within_of : (bytes shown : List ℕ) (ss : List Span) (rows : List RowMade) (i : ℕ) (s : Span)
     → rows_made bytes ss ≡ rows
-    → AreWithin bytes ss → shown ≡ bytes → i < length rows → s ≡ get_or ss i s → IsWithin shown s
-within_of bytes shown ss rows i s made all same lt e = subst (λ l. IsWithin l s) (sym same)
+    → ItemsAreWithin bytes ss → shown ≡ bytes → i < length rows → s ≡ get_or ss i s → ItemIsWithin shown s
+within_of bytes shown ss rows i s made all same lt e = subst (λ l. ItemIsWithin l s) (sym same)
     (within_at bytes ss i s all
     (subst (λ n. i < n) (rows_length bytes ss) (subst (λ l. i < length l) (sym made) lt)) e)
 
@@ -141,7 +141,7 @@ rows_from bytes (t ∷ ts) (suc i) d lt = rows_from bytes ts i d (omega arith)
 pub is_killed : (bytes : List ℕ) (s : Span) (policy : ℕ) (later : Option (ℕ × ℕ)) → s.end ≡ Killed policy
     → kill_or s.branch (span_made bytes s).end later ≡ Some (s.branch, policy)
 is_killed bytes s policy later e =
-    ap (λ end. kill_or s.branch (end_made end (between s.place_end s.record_end bytes)) later) e
+    ap (λ end. kill_or s.branch (end_made end (bytes_between s.place_end s.record_end bytes)) later) e
 
 pub not_killed : (branch : ℕ) (end : ItemEnd) (bytes : List ℕ) (later : Option (ℕ × ℕ))
     → ((policy : ℕ) → end ≡ Killed policy → ⊥) → kill_or branch (end_made end bytes) later ≡ later
@@ -151,7 +151,7 @@ not_killed branch (Killed policy) bytes later other = absurd (other policy refl)
 
 -- ---- the first so many
 
-pub within_take : (bytes : List ℕ) (n : ℕ) (ss : List Span) → AreWithin bytes ss → AreWithin bytes (take n ss)
+pub within_take : (bytes : List ℕ) (n : ℕ) (ss : List Span) → ItemsAreWithin bytes ss → ItemsAreWithin bytes (take n ss)
 within_take bytes zero ss all = tt
 within_take bytes (suc n) [] all = tt
 within_take bytes (suc n) (s ∷ ss) all = (all.0, within_take bytes n ss all.1)

@@ -8,8 +8,8 @@ use Rattle.gob_branch.specs.declared.items.ItemEnd.TheVariants.{Written, Error, 
 use Rattle.gob_branch.specs.declared.items.Span.{Span}
 
 -- the bytes of a buffer from one place to another
-abbrev pub between : ℕ → ℕ → List ℕ → List ℕ
-between from to bytes = take (to - from) (drop from bytes)
+abbrev pub bytes_between : ℕ → ℕ → List ℕ → List ℕ
+bytes_between from to bytes = take (to - from) (drop from bytes)
 
 -- what becomes of a row with this record
 abbrev pub end_made : ItemEnd → List ℕ → End
@@ -28,19 +28,19 @@ item_value i = row_made i.branch i.place.now i.optional i.end i.record.now
 
 -- the item that stands there
 abbrev pub span_made : List ℕ → Span → RowMade
-span_made bytes s = row_made s.branch (between s.place_start s.place_end bytes) s.optional s.end
-    (between s.place_end s.record_end bytes)
+span_made bytes s = row_made s.branch (bytes_between s.place_start s.place_end bytes) s.optional s.end
+    (bytes_between s.place_end s.record_end bytes)
 
 abbrev pub rows_made : List ℕ → List Span → List RowMade
 rows_made bytes spans = map (span_made bytes) spans
 
 -- the item stands in the buffer, its place before its record, and the place is a text
-pub record IsWithin (bytes : List ℕ) (s : Span) : Type 0 where
+pub record ItemIsWithin (bytes : List ℕ) (s : Span) : Type 0 where
   pub place : s.place_start ≤ s.place_end
   pub placed : s.place_end ≤ s.record_end
   pub end : s.record_end ≤ length bytes
-  pub text : IsUtf8 (between s.place_start s.place_end bytes)
+  pub text : IsUtf8 (bytes_between s.place_start s.place_end bytes)
 
-abbrev pub AreWithin : List ℕ → List Span → Type 0
-AreWithin bytes [] = Unit {0}
-AreWithin bytes (s ∷ ss) = IsWithin bytes s × AreWithin bytes ss
+abbrev pub ItemsAreWithin : List ℕ → List Span → Type 0
+ItemsAreWithin bytes [] = Unit {0}
+ItemsAreWithin bytes (s ∷ ss) = ItemIsWithin bytes s × ItemsAreWithin bytes ss

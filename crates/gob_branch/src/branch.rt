@@ -7,7 +7,7 @@ ghost use Rattle.gob_convert.specs.declared.convert.ConvertFault.{ConvertFault a
 ghost use Rattle.gob_meaning.specs.Formats.{record_of};
 ghost use Rattle.gob_meaning.specs.Plans.{branch_fits, branch_is_short};
 ghost use Rattle.gob_meaning.specs.Items.{made_in_branch};
-ghost use Rattle.gob_rowcheck.specs.Verdicts.{end_of};
+ghost use Rattle.gob_rowcheck.specs.Verdicts.{end_ruling};
 ghost use Rattle.gob_branch.specs.Branches.{EndsBad, EndsSo, after_branch, made_of_row};
 
 use crate::chain::Chain;
@@ -229,10 +229,10 @@ fn end_made(
     record: &mut Vec<u8>,
 ) -> Result<ItemEnd, ConvertFault>
     requires { conforms encoder.now.columns row.now ≡ true }
-    ensures ok { IfOk result (λ e. EndsSo (end_of end)
+    ensures ok { IfOk result (λ e. EndsSo (end_ruling end)
         (record_of encoder.now.format encoder.now.columns row.now) e record.new.items) }
     ensures bad { IfErr result (λ e. e ≡ Fault.Bad
-        → EndsBad (end_of end) (record_of encoder.now.format encoder.now.columns row.now)) }
+        → EndsBad (end_ruling end) (record_of encoder.now.format encoder.now.columns row.now)) }
 {
     record.clear();
     match end {

@@ -3,7 +3,7 @@ ghost use Rattle.std.specs.Prelude.{◌≡◌, ◌<◌, ◌≤◌, ◌++◌, [],
 ghost use Rattle.std.specs.Str.{IsUtf8};
 ghost use Rattle.std.specs.List.{slice_get};
 ghost use Rattle.gob_meaning.specs.Fold.{first_kill};
-ghost use Rattle.gob_branch.specs.ItemSpans.{between, item_value};
+ghost use Rattle.gob_branch.specs.ItemSpans.{bytes_between, item_value};
 
 use gob_plan::NoMemory;
 use std::alloc::Global;
@@ -55,13 +55,13 @@ pub struct LineItems {
 impl Model for LineItems {
     ghost use Rattle.std.specs.Prelude.{List};
     ghost use Rattle.gob_meaning.specs.Items.{RowMade};
-    ghost use Rattle.gob_branch.specs.ItemSpans.{AreWithin, rows_made};
+    ghost use Rattle.gob_branch.specs.ItemSpans.{ItemsAreWithin, rows_made};
 
     ghost Value = { List RowMade };
 
     ghost view = { λ l. rows_made l.bytes.items l.spans.items };
 
-    ghost invariant = { λ l. AreWithin l.bytes.items l.spans.items };
+    ghost invariant = { λ l. ItemsAreWithin l.bytes.items l.spans.items };
 }
 
 impl LineItems {
@@ -153,7 +153,7 @@ impl LineItems {
 fn part(bytes: &[u8], from: usize, to: usize) -> &[u8]
     requires in_order { from ≤ to }
     requires within { to ≤ length bytes.now }
-    ensures { result.now ≡ between from to bytes.now }
+    ensures { result.now ≡ bytes_between from to bytes.now }
 {
     &bytes[from..to]
 }

@@ -7,11 +7,11 @@ use Rattle.gob_bytes.specs.Lines.{text_of, lines, lines_from, rest, rest_from, l
 use Rattle.gob_bytes.specs.Lines.{ends_in_lf}
 use Rattle.gob_bytes.specs.Paths.{job_file, state_name, delta_name, sequence_name, attempt_folder, keeps_state}
 use Rattle.gob_bytes.specs.Paths.{is_published}
-use Rattle.gob_bytes.specs.Words.{words, numbered}
+use Rattle.gob_bytes.specs.Words.{words, numbered_line}
 use Rattle.gob_bytes.specs.Numbers.{number_read, integer_read}
 use Rattle.gob_bytes.specs.Names.{is_job_name, is_column_name, is_lower_or_digit, is_job_byte}
-use Rattle.gob_bytes.specs.Digits.{padded, offset}
-use Rattle.gob_bytes.specs.Escapes.{escaped, is_letter, is_digit, is_plain}
+use Rattle.gob_bytes.specs.Digits.{padded_digits, offset}
+use Rattle.gob_bytes.specs.Escapes.{escape_of, is_letter, is_digit, is_plain}
 use Rattle.percent_encoding.specs.Percent.{percent_encode_byte}
 
 pub numbers : (number_read (codes "0") ≡ Some 0)
@@ -52,8 +52,8 @@ pub columns : (is_column_name (codes "A.b_c-9") ≡ true) × (is_column_name (co
 unfolding is_column_name
 columns = (refl, refl, refl, refl, refl)
 
-pub written : (offset 4 ≡ codes "00000000000000000004") × (escaped (codes "web1/a b.log") ≡ codes "web1%2Fa%20b.log")
-unfolding padded offset escaped percent_encode_byte
+pub written : (offset 4 ≡ codes "00000000000000000004") × (escape_of (codes "web1/a b.log") ≡ codes "web1%2Fa%20b.log")
+unfolding padded_digits offset escape_of percent_encode_byte
 written = (refl, refl)
 
 -- ---- bytes of names, by kind
@@ -92,7 +92,7 @@ pub file_names :
     (job_file (codes "j") ≡ codes "jobs/j.pull") × (state_name (codes "j") ≡ codes "j/state")
     × (delta_name (codes "j") 7 ≡ codes "j/delta/00000000000000000007") × (sequence_name (codes "j") ≡ codes "j/seq")
     × (attempt_folder (codes "j") 12 3 ≡ codes "j/stage/12-3/")
-unfolding offset padded digits
+unfolding offset padded_digits digits
 file_names = (refl, refl, refl, refl, refl)
 
 pub files_told :
@@ -105,6 +105,6 @@ files_told = (refl, refl)
 pub words_written :
     (words (codes "done") (codes "a" ∷ codes "b" ∷ []) ≡ codes "done a b\n")
     × (words (codes "done") [] ≡ codes "done\n")
-    × (numbered (codes "counts") (12 ∷ 0 ∷ []) ≡ codes "counts 12 0\n")
+    × (numbered_line (codes "counts") (12 ∷ 0 ∷ []) ≡ codes "counts 12 0\n")
 unfolding digits
 words_written = (refl, refl, refl)

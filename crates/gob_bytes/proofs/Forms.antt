@@ -16,9 +16,9 @@ use Rattle.std.proofs.lemmas.Fmt.{first_decimal, decimal_digit}
 use Rattle.percent_encoding.specs.Percent.{percent_encode_byte, percent_decode}
 use Rattle.percent_encoding.proofs.PercentLemmas.{percent_decode-nil, percent_decode-percent_encode_byte}
 use Rattle.percent_encoding.proofs.PercentLemmas.{percent_decode_not_percent, IsByte}
-use Rattle.gob_bytes.specs.Digits.{padded, offset, OffsetsHaveOneForm}
+use Rattle.gob_bytes.specs.Digits.{padded_digits, offset, OffsetsHaveOneForm}
 use Rattle.gob_bytes.specs.Numbers.{is_digits, read_up_to, has_spare_zero, number_read, NumbersHaveOneForm}
-use Rattle.gob_bytes.specs.Escapes.{is_plain, escaped, AreBytes, EscapesTellNamesApart}
+use Rattle.gob_bytes.specs.Escapes.{is_plain, escape_of, AreBytes, EscapesTellNamesApart}
 
 pub own : IsNumeralModel (λ ds. all_ascii_digits ds ≡ true) (digits_value 10)
 own = numerals_by_value _ tells_all_ascii_digits
@@ -87,24 +87,24 @@ one_form bs n = (
 -- ---- names
 
 -- what a name is escaped to decodes to the name
-pub unescaped : (bs : List ℕ) → AreBytes bs → percent_decode (escaped bs) ≡ bs
-unfolding escaped
+pub unescaped : (bs : List ℕ) → AreBytes bs → percent_decode (escape_of bs) ≡ bs
+unfolding escape_of
 unescaped [] small = percent_decode-nil
 unescaped (b ∷ bs) small =
     let later = ap (λ x. b ∷ x) (unescaped bs (All-tail IsByte b bs small)) in
-    cond_both (is_plain b) (b ∷ []) (percent_encode_byte b) (λ x. percent_decode (x ++ escaped bs) ≡ b ∷ bs)
-    (λ plain. percent_decode_not_percent b (escaped bs) (λ e. both_ways (is_plain b) (ap is_plain e) plain) ∙ later)
-    (λ _. percent_decode-percent_encode_byte b (escaped bs) (All-head IsByte b bs small) ∙ later)
+    cond_both (is_plain b) (b ∷ []) (percent_encode_byte b) (λ x. percent_decode (x ++ escape_of bs) ≡ b ∷ bs)
+    (λ plain. percent_decode_not_percent b (escape_of bs) (λ e. both_ways (is_plain b) (ap is_plain e) plain) ∙ later)
+    (λ _. percent_decode-percent_encode_byte b (escape_of bs) (All-head IsByte b bs small) ∙ later)
 
 pub escapes_apart : EscapesTellNamesApart
 escapes_apart x y small small' same = sym (unescaped x small) ∙ ap percent_decode same ∙ unescaped y small'
 
 -- ---- offsets
 
-pub length-padded : (k n : ℕ) → length (padded k n) ≡ k
-unfolding padded
-length-padded zero n = refl
-length-padded (suc k) n = let shorter = length-padded k (n / 10) in simp length-append (omega arith)
+pub length-padded_digits : (k n : ℕ) → length (padded_digits k n) ≡ k
+unfolding padded_digits
+length-padded_digits zero n = refl
+length-padded_digits (suc k) n = let shorter = length-padded_digits k (n / 10) in simp length-append (omega arith)
 
 push_apart : (xs ys : List ℕ) (x y : ℕ) → xs ++ x ∷ [] ≡ ys ++ y ∷ [] → (xs ≡ ys) × (x ≡ y)
 push_apart [] [] x y same = (refl, cc)
@@ -116,17 +116,17 @@ push_apart (b ∷ xs) (c ∷ ys) x y same =
     let rest : xs ++ x ∷ [] ≡ ys ++ y ∷ [] = cc in
     let parts = push_apart xs ys x y rest in (cc, parts.1)
 
-padded_apart : (k m n : ℕ) → m < 10 ^ k → n < 10 ^ k → padded k m ≡ padded k n → m ≡ n
-unfolding padded
+padded_apart : (k m n : ℕ) → m < 10 ^ k → n < 10 ^ k → padded_digits k m ≡ padded_digits k n → m ≡ n
+unfolding padded_digits
 padded_apart zero m n below below' same = omega arith
 padded_apart (suc k) m n below below' same =
-    let parts = push_apart (padded k (m / 10)) (padded k (n / 10)) _ _ same in
+    let parts = push_apart (padded_digits k (m / 10)) (padded_digits k (n / 10)) _ _ same in
     let front = padded_apart k (m / 10) (n / 10) (omega arith) (omega arith) parts.0 in
     omega arith
 
 pub offsets_one_form : OffsetsHaveOneForm
 unfolding offset
-offsets_one_form = (length-padded 20, padded_apart 20)
+offsets_one_form = (length-padded_digits 20, padded_apart 20)
 
 -- ---- texts are bytes
 

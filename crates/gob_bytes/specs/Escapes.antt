@@ -13,8 +13,8 @@ is_digit b = nat_le 48 b && nat_le b 57
 abbrev pub is_plain : ℕ → Bool
 is_plain b = is_letter b || is_digit b || nat_eq b 46 || nat_eq b 95 || nat_eq b 45
 
-unfoldable pub escaped : List ℕ → List ℕ
-escaped name = flat_map (λ b. cond (is_plain b) (b ∷ []) (percent_encode_byte b)) name
+unfoldable pub escape_of : List ℕ → List ℕ
+escape_of name = flat_map (λ b. cond (is_plain b) (b ∷ []) (percent_encode_byte b)) name
 
 -- numbers that are bytes
 abbrev pub AreBytes : List ℕ → Type 0
@@ -22,4 +22,4 @@ AreBytes bs = All (λ b. b < 256) bs
 
 -- two names that are escaped alike are one
 abbrev pub EscapesTellNamesApart : Type 0
-EscapesTellNamesApart = (x y : List ℕ) → AreBytes x → AreBytes y → escaped x ≡ escaped y → x ≡ y
+EscapesTellNamesApart = (x y : List ℕ) → AreBytes x → AreBytes y → escape_of x ≡ escape_of y → x ≡ y

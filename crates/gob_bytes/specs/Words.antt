@@ -8,5 +8,5 @@ words first [] = first ++ 10 ∷ []
 words first (w ∷ ws) = first ++ 32 ∷ words w ws
 
 -- a line of a word and these numbers
-abbrev pub numbered : List ℕ → List ℕ → List ℕ
-numbered word numbers = words word (map decimal numbers)
+abbrev pub numbered_line : List ℕ → List ℕ → List ℕ
+numbered_line word numbers = words word (map decimal numbers)

@@ -11,7 +11,7 @@ use Rattle.gob_ledger.specs.Next.{Judged}
 use Rattle.gob_segments.specs.declared.change.Loaded.{Loaded}
 use Rattle.gob_commit.specs.declared.rules.CommitRules.{CommitRules}
 use Rattle.gob_commit.specs.Done.{GroupsDone}
-use Rattle.gob_commit.specs.Going.{GoesAlong, GoneAlong}
+use Rattle.gob_commit.specs.Going.{CommitsAlong, GoneAlong}
 use Rattle.gob_commit.specs.Staged.{HasStaged}
 use Rattle.gob_commit.proofs.Doing.{nothing_first}
 
@@ -37,7 +37,7 @@ none_gone j held l units results groups settled m has = record {
 }
 
 pub nothing_along : (rules : CommitRules) (l : Loaded) (units : List WorkUnit) (results : List UnitResult)
-    (o : Option Disk) → AddsMaps (GoesAlong rules l units results) o o
+    (o : Option Disk) → AddsMaps (CommitsAlong rules l units results) o o
 nothing_along rules l units results o =
-    maps_nothing (GoesAlong rules l units results)
+    maps_nothing (CommitsAlong rules l units results)
     (λ m j held settled has run. none_gone j held l units results _ settled m run.has) o

@@ -31,7 +31,7 @@ use Rattle.gob_segments.specs.declared.change.Loaded.{Loaded}
 use Rattle.gob_state.specs.Committed.{judged_by}
 use Rattle.gob_commit.specs.declared.rules.CommitRules.{CommitRules}
 use Rattle.gob_commit.specs.Done.{PublishedFrom}
-use Rattle.gob_commit.specs.Going.{GroupEnded, GroupEnds, GroupRises, GroupRose, InOrder, LeavesStaging}
+use Rattle.gob_commit.specs.Going.{GroupEnded, GroupEnds, GroupRises, GroupRose, SortsPairs, LeavesStaging}
 use Rattle.gob_commit.specs.Going.{StagingLeft, StepsEnd, StepsRise, settled_by, with_state}
 use Rattle.gob_segments.specs.Loading.{IsLoaded}
 use Rattle.gob_commit.specs.Staged.{HasRules, HasStaged, Pair, all_pairs}
@@ -84,7 +84,7 @@ some_done j rules l units results t has n = λ none.
     (ap (λ p. allowed_units p (judged_by units results)) (sym has.policy) ∙ none)
 
 sorted_staged : (j : Job) (held : Held) (done : List Judged) (m : Files) (c : Change) (pairs sorted : List Pair)
-    → InOrder j.name c pairs sorted → ((p : Pair) → Contains pairs p → p.0 ≢ staged_state j.name)
+    → SortsPairs j.name c pairs sorted → ((p : Pair) → Contains pairs p → p.0 ≢ staged_state j.name)
     → StagedFor j held done m pairs → StagedFor j held done (with_state j.name c m) sorted
 sorted_staged j held done m c pairs sorted order apart files = record {
   made = λ p h.
@@ -100,7 +100,7 @@ committed_by : (j : Job) (held : Held) (rules : CommitRules) (l : Loaded) (units
     → Next rules l units results t → ((p : Pair) → Contains (all_pairs results) p → p.0 ≢ staged_state j.name)
     → (s : HasStaged j held l units results settled m)
     → let c = change_over j.name s.kept (next_of_group j (option_map state_of s.kept) (judged_by units results)) in
-    InOrder j.name c (all_pairs results) sorted
+    SortsPairs j.name c (all_pairs results) sorted
     → CommittedGroup j held settled s.kept (judged_by units results) (settled_by j.name c sorted m)
 committed_by j held rules l units results t settled m sorted has n apart s order =
     let g = judged_by units results in
@@ -212,7 +212,7 @@ group_ends rules l units results t changes n apart counted a =
 
 -- ---- what else is staged
 
-unmoved : (job : List ℕ) (c : Change) (pairs sorted : List Pair) (name target : List ℕ) → InOrder job c pairs sorted
+unmoved : (job : List ℕ) (c : Change) (pairs sorted : List Pair) (name target : List ℕ) → SortsPairs job c pairs sorted
     → name ≢ staged_state job → ((p : Pair) → Contains pairs p → p.0 ≢ name)
     → Contains (group_steps job c sorted) (move name target) → ⊥
 unmoved job c pairs sorted name target order other apart h = ⊎_elim

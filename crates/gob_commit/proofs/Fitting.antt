@@ -12,7 +12,7 @@ use Rattle.std.proofs.lemmas.Bool.Decides.{nat_tests}
 use Rattle.std.proofs.lemmas.Grind.{flat_map-append}
 use Rattle.std.proofs.lemmas.List.Sorted.{Contains-permutation, IsPermutation-sym}
 use Rattle.gob_bytes.proofs.Tables.{same_name, two_names}
-use Rattle.gob_bytes.specs.Digits.{offset, padded}
+use Rattle.gob_bytes.specs.Digits.{offset, padded_digits}
 use Rattle.gob_bytes.specs.Escapes.{is_digit, is_letter}
 use Rattle.gob_bytes.specs.Paths.{begins_with, delta_folder, delta_name, keeps_state, sequence_name}
 use Rattle.gob_bytes.specs.Paths.{staging, state_name, under}
@@ -23,13 +23,13 @@ use Rattle.gob_ledger.specs.Spelling.{Proper, Small}
 use Rattle.gob_ledger.specs.State.{State}
 use Rattle.gob_ledger.proofs.DeltaNames.{change_below, same_number_named}
 use Rattle.gob_ledger.proofs.Members.{in_cases, in_map, map_in, none_in}
-use Rattle.gob_recovery.specs.Sequence.{CommitStep, WellFormed, is_file_name, is_lasting, is_name_byte, is_staged, move}
+use Rattle.gob_recovery.specs.Sequence.{CommitStep, WellFormed, is_file_name, is_lasting, is_sequence_byte, is_staged, move}
 use Rattle.gob_recovery.specs.Sequence.{names_in, remove, step_fits}
 use Rattle.gob_history.specs.Laws.{group_steps, moves_of, removes_of, staged_state}
 use Rattle.gob_history.proofs.Fronts.{kept_unstaged, published_not_kept, published_unstaged, under_front}
 use Rattle.gob_history.proofs.Kept.{is_change, is_state}
 use Rattle.gob_segments.specs.Changes.{CountsChanges}
-use Rattle.gob_commit.specs.Going.{ChangeNamed, FileOfState, InOrder}
+use Rattle.gob_commit.specs.Going.{ChangeNamed, FileOfState, SortsPairs}
 use Rattle.gob_commit.specs.Staged.{NamesFit, Pair}
 use Rattle.gob_commit.proofs.Differing.{differ_sorted, distinct_both, each_all, in_pairs}
 use Rattle.gob_commit.proofs.Differing.{list_all_at}
@@ -38,14 +38,14 @@ use Rattle.gob_commit.proofs.Names.{same_path}
 
 -- ---- bytes of names
 
-bytes_both : (xs ys : List ℕ) → list_all is_name_byte xs ≡ true → list_all is_name_byte ys ≡ true
-    → list_all is_name_byte (xs ++ ys) ≡ true
+bytes_both : (xs ys : List ℕ) → list_all is_sequence_byte xs ≡ true → list_all is_sequence_byte ys ≡ true
+    → list_all is_sequence_byte (xs ++ ys) ≡ true
 bytes_both [] ys a b = b
 bytes_both (x ∷ xs) ys a b =
-    let both = and_parts (is_name_byte x) (list_all is_name_byte xs) a in
-    and_from (is_name_byte x) (list_all is_name_byte (xs ++ ys)) both.0 (bytes_both xs ys both.1 b)
+    let both = and_parts (is_sequence_byte x) (list_all is_sequence_byte xs) a in
+    and_from (is_sequence_byte x) (list_all is_sequence_byte (xs ++ ys)) both.0 (bytes_both xs ys both.1 b)
 
-pub name_then : (name bytes : List ℕ) → is_file_name name ≡ true → list_all is_name_byte bytes ≡ true
+pub name_then : (name bytes : List ℕ) → is_file_name name ≡ true → list_all is_sequence_byte bytes ≡ true
     → is_file_name (name ++ bytes) ≡ true
 name_then [] bytes named all = let no : false ≡ true = named in cc
 name_then (b ∷ bs) bytes named all = bytes_both (b ∷ bs) bytes named all
@@ -54,7 +54,7 @@ any_of : (a c d e f g h : Bool) → (a || true || c || d || e || f || g || h) �
 any_of true c d e f g h = refl
 any_of false c d e f g h = refl
 
-digit_named : (b : ℕ) → is_digit b ≡ true → is_name_byte b ≡ true
+digit_named : (b : ℕ) → is_digit b ≡ true → is_sequence_byte b ≡ true
 digit_named b digit =
     ap (λ v. is_letter b || v || nat_eq b 46 || nat_eq b 95 || nat_eq b 45 || nat_eq b 47 || nat_eq b 64 || nat_eq b 37)
     digit
@@ -63,20 +63,20 @@ digit_named b digit =
 is_a_digit : (d : ℕ) → d < 10 → is_digit (48 + d) ≡ true
 is_a_digit d small = grind (arith, nat_tests)
 
-padded_named : (k n : ℕ) → list_all is_name_byte (padded k n) ≡ true
-unfolding padded
+padded_named : (k n : ℕ) → list_all is_sequence_byte (padded_digits k n) ≡ true
+unfolding padded_digits
 padded_named zero n = refl
 padded_named (suc k) n =
-    bytes_both (padded k (n / 10)) ((48 + n % 10) ∷ []) (padded_named k (n / 10))
-    (and_from (is_name_byte (48 + n % 10)) true (digit_named (48 + n % 10) (is_a_digit (n % 10) (omega arith))) refl)
+    bytes_both (padded_digits k (n / 10)) ((48 + n % 10) ∷ []) (padded_named k (n / 10))
+    (and_from (is_sequence_byte (48 + n % 10)) true (digit_named (48 + n % 10) (is_a_digit (n % 10) (omega arith))) refl)
 
-offset_named : (n : ℕ) → list_all is_name_byte (offset n) ≡ true
+offset_named : (n : ℕ) → list_all is_sequence_byte (offset n) ≡ true
 unfolding offset
 offset_named n = padded_named 20 n
 
 pub file_pathname : (name : List ℕ) → is_file_name name ≡ true → IsPathname name
 file_pathname [] e = e
-file_pathname (b ∷ bs) e = name_bytes is_name_byte refl (b ∷ bs) e
+file_pathname (b ∷ bs) e = name_bytes is_sequence_byte refl (b ∷ bs) e
 
 pub staged_state_named : (job : List ℕ) → is_file_name job ≡ true → is_file_name (staged_state job) ≡ true
 staged_state_named job named =
@@ -366,7 +366,7 @@ sorted_fit job pairs sorted moved fit =
     }
 
 pub in_order : (job : List ℕ) (c : Change) (pairs sorted : List Pair) → is_file_name job ≡ true
-    → IsPermutation pairs sorted → NamesFit job pairs → ChangeNamed job c → InOrder job c pairs sorted
+    → IsPermutation pairs sorted → NamesFit job pairs → ChangeNamed job c → SortsPairs job c pairs sorted
 in_order job c pairs sorted job_named moved fit named = record {
   from = λ p h. Contains-permutation pairs sorted p moved h;
   back = λ p h. Contains-permutation sorted pairs p (IsPermutation-sym pairs sorted moved) h;

@@ -19,28 +19,28 @@ use Rattle.gob_ledger.proofs.Members.{map_in, none_in}
 use Rattle.gob_history.specs.Laws.{StagedFor}
 use Rattle.gob_history.specs.Runs.{done_in}
 use Rattle.gob_state.specs.Committed.{judged_by, verdict_in}
-use Rattle.gob_commit.specs.Staged.{Made, Pair, all_pairs, judged, pairs_in}
+use Rattle.gob_commit.specs.Staged.{PulledUnit, Pair, all_pairs, judged_of, pairs_in}
 use Rattle.gob_commit.proofs.Differing.{list_all_at}
 
 -- ---- units with their results
 
 pub judged_all : (units : List WorkUnit) (results : List UnitResult)
-    → map judged (zip units results) ≡ judged_by units results
+    → map judged_of (zip units results) ≡ judged_by units results
 judged_all [] results = refl
 judged_all (u ∷ us) [] = refl
 judged_all (u ∷ us) (r ∷ rs) = ap (λ (js : List Judged). (u, verdict_in r) ∷ js) (judged_all us rs)
 
 pub made_of : (units : List WorkUnit) (results : List UnitResult) (j : Judged) → Contains (judged_by units results) j
-    → (w : Made) × Contains (zip units results) w × (judged w ≡ j)
+    → (w : PulledUnit) × Contains (zip units results) w × (judged_of w ≡ j)
 made_of units results j h =
-    in_map judged (zip units results) j
+    in_map judged_of (zip units results) j
     (subst (λ (js : List Judged). Contains js j) (sym (judged_all units results)) h)
 
-pub judged_in : (units : List WorkUnit) (results : List UnitResult) (w : Made) → Contains (zip units results) w
-    → Contains (judged_by units results) (judged w)
+pub judged_in : (units : List WorkUnit) (results : List UnitResult) (w : PulledUnit) → Contains (zip units results) w
+    → Contains (judged_by units results) (judged_of w)
 judged_in units results w h =
-    subst (λ (js : List Judged). Contains js (judged w)) (judged_all units results)
-    (map_in judged (zip units results) w h)
+    subst (λ (js : List Judged). Contains js (judged_of w)) (judged_all units results)
+    (map_in judged_of (zip units results) w h)
 
 pub zip_firsts : {X Y : Type 0} (xs : List X) (ys : List Y) → length ys ≡ length xs
     → map (λ (w : X × Y). w.0) (zip xs ys) ≡ xs
@@ -59,15 +59,15 @@ zip_seconds {X} {Y} (x ∷ xs) (y ∷ ys) e = ap (λ (zs : List Y). y ∷ zs) (z
 unit_of : (units : List WorkUnit) (results : List UnitResult) (r : UnitResult) → length results ≡ length units
     → Contains results r → (u : WorkUnit) × Contains (zip units results) (u, r)
 unit_of units results r counted h =
-    let found = in_map (λ (w : Made). w.1) (zip units results) r
+    let found = in_map (λ (w : PulledUnit). w.1) (zip units results) r
     (subst (λ (rs : List UnitResult). Contains rs r) (sym (zip_seconds units results counted)) h) in
     (found.0.0, subst (λ (q : UnitResult). Contains (zip units results) (found.0.0, q)) found.2 found.1)
 
-pub result_of : (units : List WorkUnit) (results : List UnitResult) (w : Made) → length results ≡ length units
+pub result_of : (units : List WorkUnit) (results : List UnitResult) (w : PulledUnit) → length results ≡ length units
     → Contains (zip units results) w → Contains results w.1
 result_of units results w counted h =
     subst (λ (rs : List UnitResult). Contains rs w.1) (zip_seconds units results counted)
-    (map_in (λ (v : Made). v.1) (zip units results) w h)
+    (map_in (λ (v : PulledUnit). v.1) (zip units results) w h)
 
 -- ---- what the policy allows
 
@@ -129,8 +129,8 @@ narrowed job plan held j done name content p e = record {
 
 pub joined : (j : Job) (held : Held) (m : Files) (units : List WorkUnit) (results : List UnitResult)
     → length results ≡ length units → done_in j (judged_by units results) ≢ []
-    → ((w : Made) → Contains (zip units results) w → is_good (verdict_in w.1) ≡ true
-    → StagedFor j held (judged w ∷ []) m (pairs_in w.1))
+    → ((w : PulledUnit) → Contains (zip units results) w → is_good (verdict_in w.1) ≡ true
+    → StagedFor j held (judged_of w ∷ []) m (pairs_in w.1))
     → StagedFor j held (done_in j (judged_by units results)) m (all_pairs results)
 joined j held m units results counted some staged = record {
   made = λ p h.
@@ -150,7 +150,7 @@ joined j held m units results counted some staged = record {
       let good : is_good (verdict_in w.0.1) ≡ true =
       ap (λ (k : Judged). is_good k.1) w.2 ∙ allowed_good j.policy all p.unit p.of_units in
       let own = (staged w.0 w.1 good).all name content
-      (narrowed j.name j.plan held (judged w.0) done name content p w.2) in
+      (narrowed j.name j.plan held (judged_of w.0) done name content p w.2) in
       (own.0, flat_map_in pairs_in results w.0.1 own.0 (result_of units results w.0 counted w.1) own.1, own.2, own.3);
 }
   where

@@ -13,7 +13,7 @@ use Rattle.gob_meaning.specs.Results.{Verdict}
 use Rattle.gob_ledger.specs.Groups.{dataset_of, is_committed}
 use Rattle.gob_ledger.specs.Next.{Judged, allows, is_good}
 use Rattle.gob_state.specs.Committed.{judged_by, may_commit, verdict_in, verdicts_in}
-use Rattle.gob_commit.specs.Groups.{is_bad}
+use Rattle.gob_commit.specs.Groups.{is_bad_unit}
 use Rattle.gob_state.proofs.NextLemmas.{length_verdicts}
 use Rattle.gob_commit.proofs.Joining.{zip_seconds}
 use Rattle.gob_commit.proofs.Pushing.{drop_here, drop_none}
@@ -38,13 +38,13 @@ or_turned false b c = refl
 
 pub bad_more : (q : List ℕ) (units : List WorkUnit) (results : List UnitResult) (i : ℕ) (u : WorkUnit)
     (r : UnitResult) (old now whole : Bool) → i < length units → i < length results → u ≡ get_or units i u
-    → r ≡ get_or results i r → now ≡ (old || is_bad q (u, verdict_in r))
-    → (old || list_any (is_bad q) (judged_by (drop i units) (drop i results))) ≡ whole
-    → (now || list_any (is_bad q) (judged_by (drop (i + 1) units) (drop (i + 1) results))) ≡ whole
+    → r ≡ get_or results i r → now ≡ (old || is_bad_unit q (u, verdict_in r))
+    → (old || list_any (is_bad_unit q) (judged_by (drop i units) (drop i results))) ≡ whole
+    → (now || list_any (is_bad_unit q) (judged_by (drop (i + 1) units) (drop (i + 1) results))) ≡ whole
 bad_more q units results i u r old now whole below within is made put so_far =
-    let rest = list_any (is_bad q) (judged_by (drop (i + 1) units) (drop (i + 1) results)) in
-    ap (λ b. b || rest) put ∙ or_turned old (is_bad q (u, verdict_in r)) rest
-    ∙ ap (λ js. old || list_any (is_bad q) js) (sym (judged_drop units results i u r below within is made)) ∙ so_far
+    let rest = list_any (is_bad_unit q) (judged_by (drop (i + 1) units) (drop (i + 1) results)) in
+    ap (λ b. b || rest) put ∙ or_turned old (is_bad_unit q (u, verdict_in r)) rest
+    ∙ ap (λ js. old || list_any (is_bad_unit q) js) (sym (judged_drop units results i u r below within is made)) ∙ so_far
 
 and_not : (a b : Bool) → b ≡ true → (a && not b) ≡ false
 and_not true b e = ap not e
@@ -55,9 +55,9 @@ or_none true b e = refl
 or_none false b e = e
 
 pub good_stays : (q : List ℕ) (u : WorkUnit) (r : UnitResult) (old good : Bool) → good ≡ is_good (verdict_in r)
-    → good ≡ true → old ≡ (old || is_bad q (u, verdict_in r))
+    → good ≡ true → old ≡ (old || is_bad_unit q (u, verdict_in r))
 good_stays q u r old good is all_right =
-    sym (or_none old (is_bad q (u, verdict_in r))
+    sym (or_none old (is_bad_unit q (u, verdict_in r))
     (and_not (bytes_eq q (dataset_of u.part)) (is_good (verdict_in r)) (sym is ∙ all_right)))
 
 put_or : (a b old : Bool) → a ≡ b → cond a true old ≡ (old || (b && true))
@@ -76,7 +76,7 @@ put_or false true old e = cc
 
 pub bad_put : (q d : List ℕ) (u : WorkUnit) (r : UnitResult) (old now good : Bool) → good ≡ is_good (verdict_in r)
     → good ≡ false → d ≡ dataset_of u.part → now ≡ cond (bytes_eq d q) true old
-    → now ≡ (old || is_bad q (u, verdict_in r))
+    → now ≡ (old || is_bad_unit q (u, verdict_in r))
 bad_put q d u r old now good is bad named put =
     put
     ∙ (put_or (bytes_eq d q) (bytes_eq q (dataset_of u.part)) old
@@ -84,21 +84,21 @@ bad_put q d u r old now good is bad named put =
     ∙ ap (λ b. old || (bytes_eq q (dataset_of u.part) && not b)) (sym bad ∙ is))
 
 pub bad_end : (q : List ℕ) (units : List WorkUnit) (results : List UnitResult) (i : ℕ) (old whole : Bool)
-    → length units ≤ i → (old || list_any (is_bad q) (judged_by (drop i units) (drop i results))) ≡ whole
+    → length units ≤ i → (old || list_any (is_bad_unit q) (judged_by (drop i units) (drop i results))) ≡ whole
     → old ≡ whole
 bad_end q units results i old whole ended so_far =
-    sym (or_none old _ (ap (list_any (is_bad q)) (judged_end units results i ended))) ∙ so_far
+    sym (or_none old _ (ap (list_any (is_bad_unit q)) (judged_end units results i ended))) ∙ so_far
 
 -- ---- the units that are committed
 
 -- the units of a dataset are all good where none of them is bad
 all_good : (d : List ℕ) (js : List Judged)
-    → not (list_any (is_bad d) js)
+    → not (list_any (is_bad_unit d) js)
     ≡ list_all is_good (map (λ (k : Judged). k.1) (filter (λ k. bytes_eq (dataset_of k.0.part) d) js))
 all_good d [] = refl
 all_good d (j ∷ js) =
     by_cases (bytes_eq d (dataset_of j.0.part)) (bytes_eq (dataset_of j.0.part) d) (is_good j.1)
-    (list_any (is_bad d) js) j (filter (λ k. bytes_eq (dataset_of k.0.part) d) js)
+    (list_any (is_bad_unit d) js) j (filter (λ k. bytes_eq (dataset_of k.0.part) d) js)
     (nat_list_eq_equiv.symm d (dataset_of j.0.part)) refl (all_good d js)
   where
     by_cases : (a b g any : Bool) (k : Judged) (rest : List Judged) → a ≡ b → is_good k.1 ≡ g
@@ -113,7 +113,7 @@ all_good d (j ∷ js) =
     by_cases false true g any k rest same is later = cc
 
 pub flag_is : (policy : CommitPolicy) (js : List Judged) (u : WorkUnit) (v : Verdict) (d : List ℕ) (all : Bool)
-    → d ≡ dataset_of u.part → all ≡ not (list_any (is_bad d) js)
+    → d ≡ dataset_of u.part → all ≡ not (list_any (is_bad_unit d) js)
     → may_commit policy all v ≡ is_committed scope.Dataset policy js (u, v)
 flag_is Full js u v d all named is =
     is ∙ all_good d js

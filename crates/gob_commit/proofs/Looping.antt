@@ -28,10 +28,10 @@ use Rattle.gob_seq.proofs.Trails.{maps_both}
 use Rattle.gob_state.specs.Committed.{judged_by}
 use Rattle.gob_commit.specs.declared.rules.CommitRules.{CommitRules}
 use Rattle.gob_commit.specs.Done.{GroupsDone}
-use Rattle.gob_commit.specs.Going.{CommitsAre, GoesAlong, GoesOverAll, GoesToEnd}
+use Rattle.gob_commit.specs.Going.{CommitsAre, CommitsAlong, GoesOverAll, GoesToEnd}
 use Rattle.gob_commit.specs.Going.{GroupEnds, GroupRises, LeadsToLast, LeadsToNext, LeavesStaging}
-use Rattle.gob_commit.specs.Groups.{ArePlaces, picked, places_from}
-use Rattle.gob_commit.specs.Staged.{AreThere, CanCommit, Made, all_pairs, state_or}
+use Rattle.gob_commit.specs.Groups.{ArePlaces, picked_items, places_from}
+use Rattle.gob_commit.specs.Staged.{AreReadyToMove, CanCommit, PulledUnit, all_pairs, state_or}
 use Rattle.gob_commit.proofs.Committing.{settled_same}
 use Rattle.gob_commit.proofs.Differing.{each_all}
 use Rattle.gob_commit.proofs.Nexting.{empties}
@@ -43,16 +43,16 @@ use Rattle.gob_commit.proofs.Reading.{reads_cleaned, reads_still}
 use Rattle.gob_commit.proofs.Splitting.{Split, group_can, group_pairs, picked_results, picked_units, results_in}
 use Rattle.gob_commit.proofs.Splitting.{split_datasets, units_in}
 
-abbrev pub group_at : List WorkUnit → List UnitResult → Places → List Made
-group_at units results v = picked (zip units results) v.items
+abbrev pub group_at : List WorkUnit → List UnitResult → Places → List PulledUnit
+group_at units results v = picked_items (zip units results) v.items
 
-abbrev pub groups_at : List WorkUnit → List UnitResult → List Places → List (List Made)
+abbrev pub groups_at : List WorkUnit → List UnitResult → List Places → List (List PulledUnit)
 groups_at units results vs = map (group_at units results) vs
 
 at_places : (units : List WorkUnit) (results : List UnitResult) (vs : List Places)
-    → map (picked (zip units results)) (map (λ (v : Places). v.items) vs) ≡ groups_at units results vs
+    → map (picked_items (zip units results)) (map (λ (v : Places). v.items) vs) ≡ groups_at units results vs
 at_places units results [] = refl
-at_places units results (v ∷ vs) = ap (λ (gs : List (List Made)). group_at units results v ∷ gs) (at_places units
+at_places units results (v ∷ vs) = ap (λ (gs : List (List PulledUnit)). group_at units results v ∷ gs) (at_places units
     results vs)
 
 pub split_places : (rules : CommitRules) (units : List WorkUnit) (results : List UnitResult) (vs : List Places)
@@ -77,7 +77,7 @@ pub record LoopOver (rules : CommitRules) (l0 : Loaded) (units : List WorkUnit) 
 
 pub loop_first : (rules : CommitRules) (l0 : Loaded) (units : List WorkUnit) (results : List UnitResult)
     (vs : List Places) (o : Option Disk) → LoopOver rules l0 units results vs
-    → IfSome o (λ d. AreThere rules.job.now (all_pairs results) d.files)
+    → IfSome o (λ d. AreReadyToMove rules.job.now (all_pairs results) d.files)
     → LoopSo rules l0 units results vs 0 l0 o o
 loop_first rules l0 units results vs o over there = record {
   so_far = so_far_first rules l0 units results (groups_at units results vs) over.can over.split;
@@ -105,7 +105,7 @@ whole_is units results vs i =
 
 -- the same at the next group
 pub record LoopAt (rules : CommitRules) (l0 : Loaded) (units : List WorkUnit) (results : List UnitResult)
-    (before rest : List (List Made)) (v : Places) (l : Loaded) (old now : Option Disk) : Type 0 where
+    (before rest : List (List PulledUnit)) (v : Places) (l : Loaded) (old now : Option Disk) : Type 0 where
   pub split : Split rules units results (before ++ group_at units results v ∷ rest)
   pub so_far : SoFar rules l0 before (group_at units results v ∷ rest) l
   pub maps : AddsMaps (Came rules l0 units results before (group_at units results v ∷ rest) l) old now
@@ -120,43 +120,43 @@ loop_at rules l0 units results vs i v l old now below is over so =
     let before = groups_at units results (take i vs) in
     record {
       split = subst (Split rules units results)
-          (whole_is units results vs i ∙ ap (λ (gs : List (List Made)). before ++ gs) rest) over.split;
-      so_far = subst (λ (gs : List (List Made)). SoFar rules l0 before gs l) rest so.so_far;
-      maps = subst (λ (gs : List (List Made)). AddsMaps (Came rules l0 units results before gs l) old now) rest so.maps;
+          (whole_is units results vs i ∙ ap (λ (gs : List (List PulledUnit)). before ++ gs) rest) over.split;
+      so_far = subst (λ (gs : List (List PulledUnit)). SoFar rules l0 before gs l) rest so.so_far;
+      maps = subst (λ (gs : List (List PulledUnit)). AddsMaps (Came rules l0 units results before gs l) old now) rest so.maps;
     }
 
 pub loop_can : (rules : CommitRules) (l0 : Loaded) (units : List WorkUnit) (results : List UnitResult)
-    (before rest : List (List Made)) (v : Places) (l : Loaded) (old now : Option Disk)
+    (before rest : List (List PulledUnit)) (v : Places) (l : Loaded) (old now : Option Disk)
     → CanCommit rules l0 units results → LoopAt rules l0 units results before rest v l old now
-    → CanCommit rules l (picked units v.items) (picked results v.items)
+    → CanCommit rules l (picked_items units v.items) (picked_items results v.items)
 loop_can rules l0 units results before rest v l old now can at =
     let g = group_at units results v in
     let own = group_can rules l0 l units results (before ++ g ∷ rest) g can at.split (in_row before rest g)
     at.so_far.fits
     (at.so_far.units g (first_in g rest g refl)) in
-    subst (λ (us : List WorkUnit). CanCommit rules l us (picked results v.items))
+    subst (λ (us : List WorkUnit). CanCommit rules l us (picked_items results v.items))
     (picked_units units results v.items can.can.counted)
     (subst (λ (rs : List UnitResult). CanCommit rules l (units_in g) rs)
     (picked_results units results v.items can.can.counted) own)
 
 pub loop_there : (rules : CommitRules) (l0 : Loaded) (units : List WorkUnit) (results : List UnitResult)
-    (before rest : List (List Made)) (v : Places) (l : Loaded) (old now : Option Disk)
+    (before rest : List (List PulledUnit)) (v : Places) (l : Loaded) (old now : Option Disk)
     → CanCommit rules l0 units results → LoopAt rules l0 units results before rest v l old now
-    → IfSome now (λ d. AreThere rules.job.now (all_pairs (picked results v.items)) d.files)
+    → IfSome now (λ d. AreReadyToMove rules.job.now (all_pairs (picked_items results v.items)) d.files)
 loop_there rules l0 units results before rest v l old now can at = told old now at.maps.told
   where
-    g : List Made
+    g : List PulledUnit
     g = group_at units results v
 
     told : (o n : Option Disk) → Both (Went (Came rules l0 units results before (g ∷ rest) l)) o n
-        → IfSome n (λ d. AreThere rules.job.now (all_pairs (picked results v.items)) d.files)
+        → IfSome n (λ d. AreReadyToMove rules.job.now (all_pairs (picked_items results v.items)) d.files)
     told None None w = tt
     told (Some d) None w = tt
     told None (Some e) w = absurd w
     told (Some d) (Some e) w =
-        subst (λ (rs : List UnitResult). AreThere rules.job.now (all_pairs rs) e.files)
+        subst (λ (rs : List UnitResult). AreReadyToMove rules.job.now (all_pairs rs) e.files)
         (picked_results units results v.items can.can.counted)
-        (subst (AreThere rules.job.now (group_pairs g)) (sym w.stands)
+        (subst (AreReadyToMove rules.job.now (group_pairs g)) (sym w.stands)
         (group_there rules l0 l units results before rest g d.files w.added can.can.counted at.split w.holds))
 
 pub loop_more : (rules : CommitRules) (l0 : Loaded) (units : List WorkUnit) (results : List UnitResult)
@@ -164,9 +164,9 @@ pub loop_more : (rules : CommitRules) (l0 : Loaded) (units : List WorkUnit) (res
     → v ≡ get_or vs i v → CanCommit rules l0 units results
     → LoopAt rules l0 units results (groups_at units results (take i vs)) (groups_at units results (drop (i + 1) vs)) v
     l old now
-    → LeadsToNext rules l (picked units v.items) (picked results v.items) after
-    → AddsMaps (GroupEnds rules l (picked units v.items) (picked results v.items) after) now new
-    → AddsMaps (LeavesStaging rules.job.now (all_pairs (picked results v.items))) now new
+    → LeadsToNext rules l (picked_items units v.items) (picked_items results v.items) after
+    → AddsMaps (GroupEnds rules l (picked_items units v.items) (picked_items results v.items) after) now new
+    → AddsMaps (LeavesStaging rules.job.now (all_pairs (picked_items results v.items))) now new
     → LoopSo rules l0 units results vs (i + 1) after old new
 loop_more rules l0 units results vs i v l after {old} {now} {new} below is can at leads ends leaves =
     let g = group_at units results v in
@@ -177,40 +177,40 @@ loop_more rules l0 units results vs i v l after {old} {now} {new} below is can a
     let front = sym (before_is units results vs i v below is) in
     let led : LeadsToNext rules l (units_in g) (results_in g) after =
     subst (λ (x : List UnitResult). LeadsToNext rules l (units_in g) x after) rs
-    (subst (λ (x : List WorkUnit). LeadsToNext rules l x (picked results v.items) after) us leads) in
+    (subst (λ (x : List WorkUnit). LeadsToNext rules l x (picked_items results v.items) after) us leads) in
     let ended : AddsMaps (GroupEnds rules l (units_in g) (results_in g) after) now new =
     subst (λ (x : List UnitResult). AddsMaps (GroupEnds rules l (units_in g) x after) now new) rs
-    (subst (λ (x : List WorkUnit). AddsMaps (GroupEnds rules l x (picked results v.items) after) now new) us ends) in
+    (subst (λ (x : List WorkUnit). AddsMaps (GroupEnds rules l x (picked_items results v.items) after) now new) us ends) in
     let left : AddsMaps (LeavesStaging rules.job.now (group_pairs g)) now new =
     subst (λ (x : List UnitResult). AddsMaps (LeavesStaging rules.job.now (all_pairs x)) now new) rs leaves in
     record {
-      so_far = subst (λ (x : List (List Made)). SoFar rules l0 x rest after) front
+      so_far = subst (λ (x : List (List PulledUnit)). SoFar rules l0 x rest after) front
           (so_far_more rules l0 l after units results before rest g at.split at.so_far led);
-      maps = subst (λ (x : List (List Made)). AddsMaps (Came rules l0 units results x rest after) old new) front
+      maps = subst (λ (x : List (List PulledUnit)). AddsMaps (Came rules l0 units results x rest after) old new) front
           (come_more rules l0 l after units results before rest g can at.split at.maps ended left);
     }
 
 pub loop_broken : (rules : CommitRules) (l0 : Loaded) (units : List WorkUnit) (results : List UnitResult)
-    (before rest : List (List Made)) (v : Places) (l : Loaded) {old now new : Option Disk}
+    (before rest : List (List PulledUnit)) (v : Places) (l : Loaded) {old now new : Option Disk}
     → CanCommit rules l0 units results → LoopAt rules l0 units results before rest v l old now
-    → AddsMaps (GroupRises rules l (picked units v.items) (picked results v.items)) now new
-    → AddsMaps (GoesAlong rules l0 units results) old new
+    → AddsMaps (GroupRises rules l (picked_items units v.items) (picked_items results v.items)) now new
+    → AddsMaps (CommitsAlong rules l0 units results) old new
 loop_broken rules l0 units results before rest v l {old} {now} {new} can at rises =
     let g = group_at units results v in
     come_broken rules l0 l units results before rest g can at.split at.maps
     (subst (λ (x : List UnitResult). AddsMaps (GroupRises rules l (units_in g) x) now new)
     (sym (picked_results units results v.items can.can.counted))
-    (subst (λ (x : List WorkUnit). AddsMaps (GroupRises rules l x (picked results v.items)) now new)
+    (subst (λ (x : List WorkUnit). AddsMaps (GroupRises rules l x (picked_items results v.items)) now new)
     (sym (picked_units units results v.items can.can.counted)) rises))
 
 pub record LoopDone (rules : CommitRules) (l0 : Loaded) (units : List WorkUnit) (results : List UnitResult)
     (l : Loaded) (old now : Option Disk) : Type 0 where
   pub leads : LeadsToLast rules l0 units results l
-  pub along : AddsMaps (GoesAlong rules l0 units results) old now
+  pub along : AddsMaps (CommitsAlong rules l0 units results) old now
   pub over : AddsMaps (GoesOverAll rules l0 units results) old now
 
 pub split_done : (rules : CommitRules) (l0 l : Loaded) (units : List WorkUnit) (results : List UnitResult)
-    (gs : List (List Made)) (old now : Option Disk) → Split rules units results gs → SoFar rules l0 gs [] l
+    (gs : List (List PulledUnit)) (old now : Option Disk) → Split rules units results gs → SoFar rules l0 gs [] l
     → AddsMaps (Came rules l0 units results gs [] l) old now → LoopDone rules l0 units results l old now
 split_done rules l0 l units results gs old now split so maps = record {
   leads = so_far_last rules l0 l units results gs split so;
@@ -269,7 +269,7 @@ cleaned_each j last now ys closed over each =
 
 pub clean_along : (rules : CommitRules) (l : Loaded) (units : List WorkUnit) (results : List UnitResult)
     {old now new : Option Disk} → AddsMaps (GoesOverAll rules l units results) old now
-    → Along (OnlyBelow (staging rules.job.now)) now new → AddsMaps (GoesAlong rules l units results) old new
+    → Along (OnlyBelow (staging rules.job.now)) now new → AddsMaps (CommitsAlong rules l units results) old new
 clean_along rules l units results a clean = maps_then
     (λ m xs ys gone each j held settled has s.
     let g = gone j held settled has s in

@@ -22,7 +22,7 @@ use Rattle.gob_plan.specs.declared.units.Unit.{Unit as WorkUnit}
 use Rattle.gob_ledger.specs.Groups.{by_dataset, dataset_of, groups_of}
 use Rattle.gob_ledger.specs.Next.{Judged}
 use Rattle.gob_ledger.proofs.Members.{in_map}
-use Rattle.gob_commit.specs.Groups.{ArePlaces, PlacesAre, picked, places_from, some_of}
+use Rattle.gob_commit.specs.Groups.{ArePlaces, PlacesAre, picked_items, places_from, some_of}
 
 abbrev pub Name : Type 0
 Name = Bor (List ℕ)
@@ -170,7 +170,7 @@ get_behind (y ∷ ys) x xs = get_behind ys x xs
 -- the units at a dataset's places are those of the dataset, in any list that goes along with the units
 pub picked_are : {X : Type 0} (part : X → List ℕ) (d : List ℕ) (whole front back : List X) (units : List WorkUnit)
     (n : ℕ) → whole ≡ front ++ back → length front ≡ n → map (λ (u : WorkUnit). u.part) units ≡ map part back
-    → picked whole (places_from n d units) ≡ filter (λ x. bytes_eq d (dataset_of (part x))) back
+    → picked_items whole (places_from n d units) ≡ filter (λ x. bytes_eq d (dataset_of (part x))) back
 picked_are part d whole front [] [] n is long along = refl
 picked_are part d whole front (x ∷ xs) [] n is long along = let no : [] ≡ part x ∷ map part xs = along in cc
 picked_are part d whole front [] (u ∷ us) n is long along =
@@ -193,35 +193,35 @@ picked_are {X} part d whole front (x ∷ xs) (u ∷ us) n is long along =
     here = ap (λ k. slice_get whole k) (sym long) ∙ ap (λ ys. slice_get ys (length front)) is ∙ get_behind front x xs
 
     cases : (b c : Bool) → b ≡ c
-        → picked whole (places_from (n + 1) d us) ≡ filter (λ y. bytes_eq d (dataset_of (part y))) xs
-        → picked whole (cond b (n ∷ places_from (n + 1) d us) (places_from (n + 1) d us))
+        → picked_items whole (places_from (n + 1) d us) ≡ filter (λ y. bytes_eq d (dataset_of (part y))) xs
+        → picked_items whole (cond b (n ∷ places_from (n + 1) d us) (places_from (n + 1) d us))
         ≡ cond c (x ∷ filter (λ y. bytes_eq d (dataset_of (part y))) xs)
         (filter (λ y. bytes_eq d (dataset_of (part y))) xs)
     cases true true same later =
-        ap (λ o. option_to_list o ++ picked whole (places_from (n + 1) d us)) here ∙ ap (λ ys. x ∷ ys) later
+        ap (λ o. option_to_list o ++ picked_items whole (places_from (n + 1) d us)) here ∙ ap (λ ys. x ∷ ys) later
     cases false false same later = later
     cases true false same later = cc
     cases false true same later = cc
 
 picked_map : {X : Type 0} (js : List X) (t : Table (List ℕ)) → map (λ (e : List ℕ × List X). e.1)
-    (map (λ (e : List ℕ × List ℕ). (e.0, picked js e.1)) t) ≡ map (picked js) (map (λ (e : List ℕ × List ℕ). e.1) t)
+    (map (λ (e : List ℕ × List ℕ). (e.0, picked_items js e.1)) t) ≡ map (picked_items js) (map (λ (e : List ℕ × List ℕ). e.1) t)
 picked_map js [] = refl
-picked_map {X} js (e ∷ es) = ap (λ (xs : List (List X)). picked js e.1 ∷ xs) (picked_map js es)
+picked_map {X} js (e ∷ es) = ap (λ (xs : List (List X)). picked_items js e.1 ∷ xs) (picked_map js es)
 
 picked_at : {X : Type 0} (js : List X) (t : Table (List ℕ)) (q : List ℕ)
-    → at_name (map (λ (e : List ℕ × List ℕ). (e.0, picked js e.1)) t) q ≡ option_map (picked js) (at_name t q)
+    → at_name (map (λ (e : List ℕ × List ℕ). (e.0, picked_items js e.1)) t) q ≡ option_map (picked_items js) (at_name t q)
 picked_at js [] q = refl
 picked_at {X} js (e ∷ es) q = cases (bytes_eq q e.0) (picked_at js es q)
   where
     cases : (b : Bool)
-        → at_name (map (λ (f : List ℕ × List ℕ). (f.0, picked js f.1)) es) q ≡ option_map (picked js) (at_name es q)
-        → cond b (Some (picked js e.1)) (at_name (map (λ (f : List ℕ × List ℕ). (f.0, picked js f.1)) es) q)
-        ≡ option_map (picked js) (cond b (Some e.1) (at_name es q))
+        → at_name (map (λ (f : List ℕ × List ℕ). (f.0, picked_items js f.1)) es) q ≡ option_map (picked_items js) (at_name es q)
+        → cond b (Some (picked_items js e.1)) (at_name (map (λ (f : List ℕ × List ℕ). (f.0, picked_items js f.1)) es) q)
+        ≡ option_map (picked_items js) (cond b (Some e.1) (at_name es q))
     cases true later = refl
     cases false later = later
 
 picked_names : {X : Type 0} (js : List X) (t : Table (List ℕ))
-    → names_of (map (λ (e : List ℕ × List ℕ). (e.0, picked js e.1)) t) ≡ names_of t
+    → names_of (map (λ (e : List ℕ × List ℕ). (e.0, picked_items js e.1)) t) ≡ names_of t
 picked_names js [] = refl
 picked_names js (e ∷ es) = ap (λ (ns : List (List ℕ)). e.0 ∷ ns) (picked_names js es)
 
@@ -256,8 +256,8 @@ at_dataset (j ∷ js) q =
     cases false is own later = later
 
 -- a dataset has places where it has units
-some_picked : {X : Type 0} (js : List X) (places : List ℕ) (xs : List X) → picked js places ≡ xs
-    → (places ≡ [] → xs ≡ []) → (xs ≡ [] → places ≡ []) → option_map (picked js) (some_of places) ≡ some_of xs
+some_picked : {X : Type 0} (js : List X) (places : List ℕ) (xs : List X) → picked_items js places ≡ xs
+    → (places ≡ [] → xs ≡ []) → (xs ≡ [] → places ≡ []) → option_map (picked_items js) (some_of places) ≡ some_of xs
 some_picked js [] [] is there back = refl
 some_picked {X} js [] (x ∷ xs) is there back = let no : x ∷ xs ≡ [] = there refl in cc
 some_picked js (p ∷ ps) [] is there back = let no : p ∷ ps ≡ [] = back refl in cc
@@ -321,20 +321,20 @@ placed units m are = record { each = each; all = all }
         (found.0.0, sym found.2 ∙ some_is found.0.1 (places_from 0 found.0.0 units) (sym there ∙ at found.0.0))
 
     all : (js : List Judged) → map (λ (j : Judged). j.0) js ≡ units
-        → map (picked js) (map (λ (p : Places). p.items) (values m)) ≡ map (λ (e : List ℕ × List Judged). e.1)
+        → map (picked_items js) (map (λ (p : Places). p.items) (values m)) ≡ map (λ (e : List ℕ × List Judged). e.1)
         (by_dataset js)
     all js e =
         let along : map (λ (u : WorkUnit). u.part) units ≡ map (λ (j : Judged). j.0.part) js =
         ap (map (λ (u : WorkUnit). u.part)) (sym e) ∙ parts_along js in
-        let picks : (q : List ℕ) → picked js (places_from 0 q units) ≡ of_dataset q js =
+        let picks : (q : List ℕ) → picked_items js (places_from 0 q units) ≡ of_dataset q js =
         λ q. picked_are (λ (j : Judged). j.0.part) q js [] js units 0 refl refl along in
-        ap (map (picked js)) (sym (table_values m.entries))
+        ap (map (picked_items js)) (sym (table_values m.entries))
         ∙ sym (picked_map js t)
         ∙ ap (map (λ (f : List ℕ × List Judged). f.1))
-        (same_tables (map (λ (f : List ℕ × List ℕ). (f.0, picked js f.1)) t) (by_dataset js)
+        (same_tables (map (λ (f : List ℕ × List ℕ). (f.0, picked_items js f.1)) t) (by_dataset js)
         (subst IsInByteOrder (sym (picked_names js t)) order) (in_order js)
-        (λ q. picked_at js t q ∙ ap (option_map (picked js)) (at q)
+        (λ q. picked_at js t q ∙ ap (option_map (picked_items js)) (at q)
         ∙ some_picked js (places_from 0 q units) (of_dataset q js) (picks q)
-        (λ none. sym (picks q) ∙ ap (picked js) none)
+        (λ none. sym (picks q) ∙ ap (picked_items js) none)
         (λ none. places_none (λ (j : Judged). j.0.part) q js units 0 along none)
         ∙ sym (at_dataset js q)))

@@ -33,12 +33,12 @@ use Rattle.gob_seq.proofs.Trails.{if_both, maps_both, maps_still}
 use Rattle.gob_state.specs.Committed.{judged_by, verdict_in, verdicts_in}
 use Rattle.gob_commit.specs.declared.rules.CommitRules.{CommitRules}
 use Rattle.gob_commit.specs.Done.{EndsWith, GroupsDone, PublishApart, PublishedFrom}
-use Rattle.gob_commit.specs.Going.{GoesAlong, GoesOverAll, GoneAlong, GroupEnds, GroupRises}
+use Rattle.gob_commit.specs.Going.{CommitsAlong, GoesOverAll, GoneAlong, GroupEnds, GroupRises}
 use Rattle.gob_commit.specs.Going.{GroupRose, LeadsToLast, LeadsToNext, LeavesStaging, LeftByGroup}
 use Rattle.gob_commit.specs.Laws.{HasRange}
 use Rattle.gob_segments.specs.Loading.{IsLoaded, LoadedFits}
-use Rattle.gob_commit.specs.Staged.{AreThere, CanCommit, HasRules, HasStaged, Made, NamesFit, Pair, RunHasStaged}
-use Rattle.gob_commit.specs.Staged.{all_pairs, judged, pairs_in, state_or}
+use Rattle.gob_commit.specs.Staged.{AreReadyToMove, CanCommit, HasRules, HasStaged, PulledUnit, NamesFit, Pair, RunHasStaged}
+use Rattle.gob_commit.specs.Staged.{all_pairs, judged_of, pairs_in, state_or}
 use Rattle.gob_commit.proofs.Beginning.{none_done}
 use Rattle.gob_commit.proofs.Doing.{kept_more, one_more, uncommitted}
 use Rattle.gob_commit.proofs.Fitting.{source_below, source_staged}
@@ -52,13 +52,13 @@ use Rattle.gob_commit.proofs.Splitting.{sources_apart, split_apart, unit_in, uni
 -- ---- what is known, told or not
 
 -- these groups are committed, and those can still be
-pub record SoFar (rules : CommitRules) (l0 : Loaded) (before rest : List (List Made)) (l : Loaded) : Type 0 where
+pub record SoFar (rules : CommitRules) (l0 : Loaded) (before rest : List (List PulledUnit)) (l : Loaded) : Type 0 where
   pub fits : LoadedFits l
   pub state : (j : Job) → HasRules j rules → l.state ≡ after_groups j l0.state (judged_in_groups before)
-  pub units : (g : List Made) → Contains rest g → UnitsFit (state_or rules.branches l.state).parts (units_in g)
+  pub units : (g : List PulledUnit) → Contains rest g → UnitsFit (state_or rules.branches l.state).parts (units_in g)
 
 pub so_far_first : (rules : CommitRules) (l : Loaded) (units : List WorkUnit) (results : List UnitResult)
-    (gs : List (List Made)) → CanCommit rules l units results → Split rules units results gs → SoFar rules l [] gs l
+    (gs : List (List PulledUnit)) → CanCommit rules l units results → Split rules units results gs → SoFar rules l [] gs l
 so_far_first rules l units results gs can s = record {
   fits = can.loaded;
   state = λ j has. refl;
@@ -72,23 +72,23 @@ after_more : (j : Job) (o : Option State) (before : List (List Judged)) (g : Lis
 after_more j o [] g = refl
 after_more j o (h ∷ hs) g = after_more j (after_group j o h) hs g
 
-judged_more : (before : List (List Made)) (g : List Made)
-    → judged_in_groups (before ++ g ∷ []) ≡ judged_in_groups before ++ map judged g ∷ []
+judged_more : (before : List (List PulledUnit)) (g : List PulledUnit)
+    → judged_in_groups (before ++ g ∷ []) ≡ judged_in_groups before ++ map judged_of g ∷ []
 judged_more [] g = refl
-judged_more (b ∷ bs) g = ap (λ (xs : List (List Judged)). map judged b ∷ xs) (judged_more bs g)
+judged_more (b ∷ bs) g = ap (λ (xs : List (List Judged)). map judged_of b ∷ xs) (judged_more bs g)
 
-judged_whole : (before rest : List (List Made)) (g : List Made)
-    → judged_in_groups (before ++ g ∷ rest) ≡ judged_in_groups before ++ map judged g ∷ judged_in_groups rest
+judged_whole : (before rest : List (List PulledUnit)) (g : List PulledUnit)
+    → judged_in_groups (before ++ g ∷ rest) ≡ judged_in_groups before ++ map judged_of g ∷ judged_in_groups rest
 judged_whole [] rest g = refl
-judged_whole (b ∷ bs) rest g = ap (λ (xs : List (List Judged)). map judged b ∷ xs) (judged_whole bs rest g)
+judged_whole (b ∷ bs) rest g = ap (λ (xs : List (List Judged)). map judged_of b ∷ xs) (judged_whole bs rest g)
 
-same_counts : (g : List Made) → length (results_in g) ≡ length (units_in g)
+same_counts : (g : List PulledUnit) → length (results_in g) ≡ length (units_in g)
 same_counts [] = refl
 same_counts (w ∷ ws) = ap suc (same_counts ws)
 
 -- what a group leads to, as the definitions have it
-leads_as : (j : Job) (rules : CommitRules) (l : Loaded) (g : List Made) (after : Loaded) → HasRules j rules
-    → LeadsToNext rules l (units_in g) (results_in g) after → after.state ≡ after_group j l.state (map judged g)
+leads_as : (j : Job) (rules : CommitRules) (l : Loaded) (g : List PulledUnit) (after : Loaded) → HasRules j rules
+    → LeadsToNext rules l (units_in g) (results_in g) after → after.state ≡ after_group j l.state (map judged_of g)
 leads_as j rules l g after has leads =
     leads.state
     ∙ (λ i. stored_where l.state
@@ -96,7 +96,7 @@ leads_as j rules l g after has leads =
     (allowed_units (sym has.policy i) (judged_by (units_in g) (results_in g))))
     ∙ ap (after_group j l.state) (group_is g)
 
-verdicts_judged : (g : List Made) → map (λ (j : Judged). j.1) (map judged g) ≡ verdicts_in (results_in g)
+verdicts_judged : (g : List PulledUnit) → map (λ (j : Judged). j.1) (map judged_of g) ≡ verdicts_in (results_in g)
 verdicts_judged [] = refl
 verdicts_judged (w ∷ ws) = λ i. verdict_in w.1 ∷ verdicts_judged ws i
 
@@ -107,7 +107,7 @@ fit_stored branches o next [] units a b = a
 fit_stored branches o next (d ∷ ds) units a b = b
 
 pub so_far_more : (rules : CommitRules) (l0 l after : Loaded) (units : List WorkUnit) (results : List UnitResult)
-    (before rest : List (List Made)) (g : List Made) → Split rules units results (before ++ g ∷ rest)
+    (before rest : List (List PulledUnit)) (g : List PulledUnit) → Split rules units results (before ++ g ∷ rest)
     → SoFar rules l0 before (g ∷ rest) l → LeadsToNext rules l (units_in g) (results_in g) after
     → SoFar rules l0 (before ++ g ∷ []) rest after
 so_far_more rules l0 l after units results before rest g s so leads =
@@ -116,8 +116,8 @@ so_far_more rules l0 l after units results before rest g s so leads =
       fits = leads.fits;
       state = λ j has.
           leads_as j rules l g after has leads
-          ∙ ap (λ o. after_group j o (map judged g)) (so.state j has)
-          ∙ sym (after_more j l0.state (judged_in_groups before) (map judged g))
+          ∙ ap (λ o. after_group j o (map judged_of g)) (so.state j has)
+          ∙ sym (after_more j l0.state (judged_in_groups before) (map judged_of g))
           ∙ ap (after_groups j l0.state) (sym (judged_more before g));
       units = λ h k.
           let fit = so.units h (later_in g rest h k) in
@@ -125,12 +125,12 @@ so_far_more rules l0 l after units results before rest g s so leads =
           (verdicts_in (results_in g)) rules.policy).parts (units_in h) =
           subst (λ (us : List WorkUnit). UnitsFit (next_state (state_or rules.branches l.state) rules.pipeline.now
           (units_in g) (verdicts_in (results_in g)) rules.policy).parts us) (units_judged h)
-          (subst (λ (t : State). UnitsFit t.parts (map (λ (i : Judged). i.0) (map judged h)))
+          (subst (λ (t : State). UnitsFit t.parts (map (λ (i : Judged). i.0) (map judged_of h)))
           (λ i. next_state (state_or rules.branches l.state) rules.pipeline.now (units_judged g i) (verdicts_judged g i)
           rules.policy)
-          (others_fit (state_or rules.branches l.state) rules.pipeline.now (map judged g) (map judged h) rules.policy
-          (rest_apart (judged_in_groups before) (judged_in_groups rest) (map judged g) apart (map judged h)
-          (map_in (map judged) rest h k))
+          (others_fit (state_or rules.branches l.state) rules.pipeline.now (map judged_of g) (map judged_of h) rules.policy
+          (rest_apart (judged_in_groups before) (judged_in_groups rest) (map judged_of g) apart (map judged_of h)
+          (map_in (map judged_of) rest h k))
           (subst (UnitsFit (state_or rules.branches l.state).parts) (sym (units_judged h)) fit))) in
           subst (λ o. UnitsFit (state_or rules.branches o).parts (units_in h)) (sym leads.state)
           (fit_stored rules.branches l.state _ (allowed_units rules.policy (judged_by (units_in g) (results_in g)))
@@ -138,7 +138,7 @@ so_far_more rules l0 l after units results before rest g s so leads =
     }
 
 pub so_far_last : (rules : CommitRules) (l0 l : Loaded) (units : List WorkUnit) (results : List UnitResult)
-    (gs : List (List Made)) → Split rules units results gs → SoFar rules l0 gs [] l
+    (gs : List (List PulledUnit)) → Split rules units results gs → SoFar rules l0 gs [] l
     → LeadsToLast rules l0 units results l
 so_far_last rules l0 l units results gs s so = record {
   fits = so.fits;
@@ -160,16 +160,16 @@ pub record CameOver (j : Job) (held : Held) (o : Option State) (k : Option Kept)
   pub loaded : IsLoaded (kept_after j k before) l
 
 pub record Came (rules : CommitRules) (l0 : Loaded) (units : List WorkUnit) (results : List UnitResult)
-    (before rest : List (List Made)) (l : Loaded) (m : Files) (added : List Files) : Type 0 where
+    (before rest : List (List PulledUnit)) (l : Loaded) (m : Files) (added : List Files) : Type 0 where
   pub closed : last_map m added (sequence_name rules.job.now) ≡ None
   pub there : (p : Pair) → Contains (all_pairs results) p → IsSome (m p.0)
-  pub same : (g : List Made) → Contains rest g → (p : Pair) → Contains (group_pairs g) p → last_map m added p.0 ≡ m p.0
+  pub same : (g : List PulledUnit) → Contains rest g → (p : Pair) → Contains (group_pairs g) p → last_map m added p.0 ≡ m p.0
   pub along : (j : Job) (held : Held) (settled : Files) → HasRules j rules
       → (s : RunHasStaged j held l0 units results settled m)
       → CameOver j held l0.state s.has.kept (judged_in_groups before) settled l added (last_map m added)
 
 came_here : (rules : CommitRules) (l : Loaded) (units : List WorkUnit) (results : List UnitResult)
-    (gs : List (List Made)) (m : Files) → AreThere rules.job.now (all_pairs results) m
+    (gs : List (List PulledUnit)) (m : Files) → AreReadyToMove rules.job.now (all_pairs results) m
     → Came rules l units results [] gs l m []
 unfolding Rises
 came_here rules l units results gs m there = record {
@@ -188,7 +188,7 @@ came_here rules l units results gs m there = record {
 }
 
 pub came_first : (rules : CommitRules) (l : Loaded) (units : List WorkUnit) (results : List UnitResult)
-    (gs : List (List Made)) (o : Option Disk) → IfSome o (λ d. AreThere rules.job.now (all_pairs results) d.files)
+    (gs : List (List PulledUnit)) (o : Option Disk) → IfSome o (λ d. AreReadyToMove rules.job.now (all_pairs results) d.files)
     → AddsMaps (Came rules l units results [] gs l) o o
 came_first rules l units results gs o there =
     maps_still (Came rules l units results [] gs l) o
@@ -200,10 +200,10 @@ in_row (b ∷ bs) rest g = later_in b (bs ++ g ∷ rest) g (in_row bs rest g)
 
 -- the group's staged files are still there
 pub group_there : (rules : CommitRules) (l0 l : Loaded) (units : List WorkUnit) (results : List UnitResult)
-    (before rest : List (List Made)) (g : List Made) (m : Files) (added : List Files)
+    (before rest : List (List PulledUnit)) (g : List PulledUnit) (m : Files) (added : List Files)
     → length results ≡ length units → Split rules units results (before ++ g ∷ rest)
     → Came rules l0 units results before (g ∷ rest) l m added
-    → AreThere rules.job.now (group_pairs g) (last_map m added)
+    → AreReadyToMove rules.job.now (group_pairs g) (last_map m added)
 group_there rules l0 l units results before rest g m added counted s c = record {
   closed = c.closed;
   there = λ p h.
@@ -255,9 +255,9 @@ staged_there j held js m now pairs same files = record {
       (own.0, own.1, own.2, same own.0 own.1 ∙ own.3);
 }
 
-own_pairs : (g : List Made) (w : Made) (p : Pair) → Contains g w → Contains (pairs_in w.1) p
+own_pairs : (g : List PulledUnit) (w : PulledUnit) (p : Pair) → Contains g w → Contains (pairs_in w.1) p
     → Contains (group_pairs g) p
-own_pairs g w p h k = flat_map_in pairs_in (results_in g) w.1 p (map_in (λ (v : Made). v.1) g w h) k
+own_pairs g w p h k = flat_map_in pairs_in (results_in g) w.1 p (map_in (λ (v : PulledUnit). v.1) g w h) k
 
 in_before : {X : Type 0} (bs rest : List X) (g h : X) → Contains bs h → Contains (bs ++ g ∷ rest) h
 in_before [] rest g h k = none_in h k
@@ -272,7 +272,7 @@ in_behind (b ∷ bs) rest g h k = later_in b (bs ++ g ∷ rest) h (in_behind bs 
 
 -- what the group finds
 group_has : (rules : CommitRules) (l0 l : Loaded) (units : List WorkUnit) (results : List UnitResult)
-    (before rest : List (List Made)) (g : List Made) (m : Files) (added : List Files)
+    (before rest : List (List PulledUnit)) (g : List PulledUnit) (m : Files) (added : List Files)
     → Split rules units results (before ++ g ∷ rest) → Came rules l0 units results before (g ∷ rest) l m added
     → (j : Job) (held : Held) (settled : Files) → (s : RunHasStaged j held l0 units results settled m)
     → (c : CameOver j held l0.state s.has.kept (judged_in_groups before) settled l added (last_map m added))
@@ -284,31 +284,31 @@ group_has rules l0 l units results before rest g m added split came j held settl
   loaded = c.loaded;
   over = c.over;
   staged = λ w h good.
-      let here : Contains g w = subst (λ (x : List Made). Contains x w) (group_made g) h in
-      staged_there j held (judged w ∷ []) m (last_map m added) (pairs_in w.1)
+      let here : Contains g w = subst (λ (x : List PulledUnit). Contains x w) (group_made g) h in
+      staged_there j held (judged_of w ∷ []) m (last_map m added) (pairs_in w.1)
       (λ p k. came.same g (first_in g rest g refl) p (own_pairs g w p here k))
       (s.has.staged w (made_in rules units results (before ++ g ∷ rest) g w split (in_row before rest g) here) good);
 }
 
 publish_apart : (rules : CommitRules) (l0 : Loaded) (units : List WorkUnit) (results : List UnitResult)
-    (before rest : List (List Made)) (g : List Made) (m : Files) → CanCommit rules l0 units results
+    (before rest : List (List PulledUnit)) (g : List PulledUnit) (m : Files) → CanCommit rules l0 units results
     → Split rules units results (before ++ g ∷ rest)
     → (j : Job) (held : Held) (settled : Files) → HasRules j rules → RunHasStaged j held l0 units results settled m
-    → PublishApart j held (judged_in_groups before) (map judged g)
+    → PublishApart j held (judged_in_groups before) (map judged_of g)
 publish_apart rules l0 units results before rest g m can split j held settled has s =
     let apart = subst EachApart (judged_whole before rest g) (split_apart rules units results (before ++ g ∷ rest)
     split) in
-    let ranged : (h : List Made) (i : Judged) → Contains (before ++ g ∷ rest) h → Contains (map judged h) i
+    let ranged : (h : List PulledUnit) (i : Judged) → Contains (before ++ g ∷ rest) h → Contains (map judged_of h) i
     → HasRange i =
-    λ h i k z. let w = in_map judged h i z in
+    λ h i k z. let w = in_map judged_of h i z in
     subst HasRange w.2 (s.ranges w.0.0 (unit_in units results w.0 can.can.counted
     (made_in rules units results (before ++ g ∷ rest) h w.0 split k w.1))) in
-    apart_units j held (judged_in_groups before) (map judged g)
+    apart_units j held (judged_in_groups before) (map judged_of g)
     (few (length j.plan.branches) rules.branches has.branches can.branches.1)
-    (λ gj i k z. let h = in_map (map judged) before gj k in
+    (λ gj i k z. let h = in_map (map judged_of) before gj k in
     ranged h.0 i (in_before before rest g h.0 h.1) (subst (λ (x : List Judged). Contains x i) (sym h.2) z))
     (λ i z. ranged g i (in_row before rest g) z)
-    (λ gj k. group_apart (judged_in_groups before) (judged_in_groups rest) (map judged g) apart gj k)
+    (λ gj k. group_apart (judged_in_groups before) (judged_in_groups rest) (map judged_of g) apart gj k)
   where
     few : (n b : ℕ) → n ≡ b → b ≤ 8 → n ≤ 2 ^ 64
     few n b e le = omega arith
@@ -326,7 +326,7 @@ done_more j held o settled last next k before g maps keeps stored done apart (in
     one_more j held o settled last next k before g maps keeps stored done apart left
 
 over_more : (rules : CommitRules) (l0 l after : Loaded) (units : List WorkUnit) (results : List UnitResult)
-    (before rest : List (List Made)) (g : List Made) (m : Files) (xs ys : List Files)
+    (before rest : List (List PulledUnit)) (g : List PulledUnit) (m : Files) (xs ys : List Files)
     → CanCommit rules l0 units results → Split rules units results (before ++ g ∷ rest)
     → Came rules l0 units results before (g ∷ rest) l m xs
     → GroupEnds rules l (units_in g) (results_in g) after (last_map m xs) ys
@@ -340,9 +340,9 @@ over_more rules l0 l after units results before rest g m xs ys can split came en
     let b = judged_in_groups before in
     let e = ends j held c.last has (group_has rules l0 l units results before rest g m xs split came j held settled s
     c) in
-    let left : LeftByGroup j held c.last (kept_after j s.has.kept b) (map judged g) e.next =
+    let left : LeftByGroup j held c.last (kept_after j s.has.kept b) (map judged_of g) e.next =
     subst (λ (x : List Judged). LeftByGroup j held c.last (kept_after j s.has.kept b) x e.next) (group_is g) e.left in
-    let done = done_more j held l0.state settled c.last e.next s.has.kept b (map judged g) c.maps s.has.keeps
+    let done = done_more j held l0.state settled c.last e.next s.has.kept b (map judged_of g) c.maps s.has.keeps
     (sym s.has.loaded.state) c.done
     (publish_apart rules l0 units results before rest g m can split j held settled has s) left in
     record {
@@ -355,7 +355,7 @@ over_more rules l0 l after units results before rest g m xs ys can split came en
       over = e.over;
       loaded = subst (λ (k : Option Kept). IsLoaded k after)
           (ap (kept_after_group j (kept_after j s.has.kept b)) (group_is g)
-          ∙ sym (kept_more j b (map judged g) s.has.kept)
+          ∙ sym (kept_more j b (map judged_of g) s.has.kept)
           ∙ ap (kept_after j s.has.kept) (sym (judged_more before g))) e.loaded;
     }
 
@@ -370,7 +370,7 @@ source_not_sequence job pairs p fit h e =
     let no : false ≡ true = ap not (sym is) ∙ isnt in cc
 
 came_more : (rules : CommitRules) (l0 l after : Loaded) (units : List WorkUnit) (results : List UnitResult)
-    (before rest : List (List Made)) (g : List Made) (m : Files) (xs ys : List Files)
+    (before rest : List (List PulledUnit)) (g : List PulledUnit) (m : Files) (xs ys : List Files)
     → CanCommit rules l0 units results → Split rules units results (before ++ g ∷ rest)
     → Came rules l0 units results before (g ∷ rest) l m xs
     → GroupEnds rules l (units_in g) (results_in g) after (last_map m xs) ys
@@ -391,8 +391,8 @@ came_more rules l0 l after units results before rest g m xs ys can split came en
           ∙ leaves.rest p.0 (source_below job (group_pairs h) p fit z) (source_not_sequence job (group_pairs h) p fit z)
           (fit.apart p z)
           (λ q y. sources_apart units results g h q p job can.can.counted can.names
-          (rest_apart (judged_in_groups before) (judged_in_groups rest) (map judged g) apart (map judged h)
-          (map_in (map judged) rest h k))
+          (rest_apart (judged_in_groups before) (judged_in_groups rest) (map judged_of g) apart (map judged_of h)
+          (map_in (map judged_of) rest h k))
           (λ w x. made_in rules units results (before ++ g ∷ rest) g w split (in_row before rest g) x)
           (λ w x. made_in rules units results (before ++ g ∷ rest) h w split whole x) y z)
           ∙ came.same h (later_in g rest h k) p z;
@@ -402,19 +402,19 @@ came_more rules l0 l after units results before rest g m xs ys can split came en
           (over_more rules l0 l after units results before rest g m xs ys can split came ends j held settled has s);
     }
 
-groups_are : (rules : CommitRules) (units : List WorkUnit) (results : List UnitResult) (gs : List (List Made))
+groups_are : (rules : CommitRules) (units : List WorkUnit) (results : List UnitResult) (gs : List (List PulledUnit))
     (j : Job) → HasRules j rules → Split rules units results gs
     → groups_of j.scope (judged_by units results) ≡ judged_in_groups gs
 groups_are rules units results gs j has split =
     ap (λ c. groups_of c (judged_by units results)) has.scope ∙ sym split.are
 
-judged_both : (before rest : List (List Made))
+judged_both : (before rest : List (List PulledUnit))
     → judged_in_groups (before ++ rest) ≡ judged_in_groups before ++ judged_in_groups rest
 judged_both [] rest = refl
-judged_both (b ∷ bs) rest = ap (λ (xs : List (List Judged)). map judged b ∷ xs) (judged_both bs rest)
+judged_both (b ∷ bs) rest = ap (λ (xs : List (List Judged)). map judged_of b ∷ xs) (judged_both bs rest)
 
 broken : (rules : CommitRules) (l0 l : Loaded) (units : List WorkUnit) (results : List UnitResult)
-    (before rest : List (List Made)) (g : List Made) (m : Files) (xs ys : List Files)
+    (before rest : List (List PulledUnit)) (g : List PulledUnit) (m : Files) (xs ys : List Files)
     → CanCommit rules l0 units results → Split rules units results (before ++ g ∷ rest)
     → Came rules l0 units results before (g ∷ rest) l m xs
     → GroupRises rules l (units_in g) (results_in g) (last_map m xs) ys
@@ -432,14 +432,14 @@ broken rules l0 l units results before rest g m xs ys can split came rise j held
     here = group_has rules l0 l units results before rest g m xs split came j held settled s c
 
     whole : groups_of j.scope (judged_by units results)
-        ≡ judged_in_groups before ++ map judged g ∷ judged_in_groups rest
+        ≡ judged_in_groups before ++ map judged_of g ∷ judged_in_groups rest
     whole = groups_are rules units results (before ++ g ∷ rest) j has split ∙ judged_whole before rest g
 
     cases : GroupRose j held c.last here.kept (judged_by (units_in g) (results_in g)) ys
         → GoneAlong j held l0.state (groups_of j.scope (judged_by units results)) settled (xs ++ ys)
     cases (inl stayed) = record {
       before = judged_in_groups before;
-      rest = map judged g ∷ judged_in_groups rest;
+      rest = map judged_of g ∷ judged_in_groups rest;
       whole = whole;
       last = c.last;
       maps = c.maps;
@@ -448,12 +448,12 @@ broken rules l0 l units results before rest g m xs ys can split came rise j held
       reads = reads_still j.name c.last c.maps xs ys c.done.ends c.reads stayed.reads;
     }
     cases (inr went) = record {
-      before = judged_in_groups before ++ map judged g ∷ [];
+      before = judged_in_groups before ++ map judged_of g ∷ [];
       rest = judged_in_groups rest;
-      whole = whole ∙ sym (append_assoc (judged_in_groups before) (map judged g ∷ []) (judged_in_groups rest));
+      whole = whole ∙ sym (append_assoc (judged_in_groups before) (map judged_of g ∷ []) (judged_in_groups rest));
       last = went.next;
       maps = c.maps ++ went.next ∷ [];
-      done = done_more j held l0.state settled c.last went.next s.has.kept (judged_in_groups before) (map judged g)
+      done = done_more j held l0.state settled c.last went.next s.has.kept (judged_in_groups before) (map judged_of g)
           c.maps s.has.keeps (sym s.has.loaded.state) c.done
           (publish_apart rules l0 units results before rest g m can split j held settled has s)
           (subst (λ (x : List Judged). LeftByGroup j held c.last here.kept x went.next) (group_is g) went.left);
@@ -464,7 +464,7 @@ broken rules l0 l units results before rest g m xs ys can split came rise j held
 -- ---- the maps of the calls
 
 pub come_more : (rules : CommitRules) (l0 l after : Loaded) (units : List WorkUnit) (results : List UnitResult)
-    (before rest : List (List Made)) (g : List Made) {old between new : Option Disk}
+    (before rest : List (List PulledUnit)) (g : List PulledUnit) {old between new : Option Disk}
     → CanCommit rules l0 units results → Split rules units results (before ++ g ∷ rest)
     → AddsMaps (Came rules l0 units results before (g ∷ rest) l) old between
     → AddsMaps (GroupEnds rules l (units_in g) (results_in g) after) between new
@@ -476,9 +476,9 @@ come_more rules l0 l after units results before rest g can split a ends leaves =
 
 -- stopped before the next group
 pub come_stopped : (rules : CommitRules) (l0 l : Loaded) (units : List WorkUnit) (results : List UnitResult)
-    (before rest : List (List Made)) {old new : Option Disk} → Split rules units results (before ++ rest)
+    (before rest : List (List PulledUnit)) {old new : Option Disk} → Split rules units results (before ++ rest)
     → AddsMaps (Came rules l0 units results before rest l) old new
-    → AddsMaps (GoesAlong rules l0 units results) old new
+    → AddsMaps (CommitsAlong rules l0 units results) old new
 come_stopped rules l0 l units results before rest split a = maps_map
     (λ m added came j held settled has s.
     let c = came.along j held settled has s in
@@ -495,11 +495,11 @@ come_stopped rules l0 l units results before rest split a = maps_map
 
 -- stopped within the next group
 pub come_broken : (rules : CommitRules) (l0 l : Loaded) (units : List WorkUnit) (results : List UnitResult)
-    (before rest : List (List Made)) (g : List Made) {old between new : Option Disk}
+    (before rest : List (List PulledUnit)) (g : List PulledUnit) {old between new : Option Disk}
     → CanCommit rules l0 units results → Split rules units results (before ++ g ∷ rest)
     → AddsMaps (Came rules l0 units results before (g ∷ rest) l) old between
     → AddsMaps (GroupRises rules l (units_in g) (results_in g)) between new
-    → AddsMaps (GoesAlong rules l0 units results) old new
+    → AddsMaps (CommitsAlong rules l0 units results) old new
 come_broken rules l0 l units results before rest g can split a rises = maps_then
     (λ m xs ys came rise j held settled has s.
     broken rules l0 l units results before rest g m xs ys can split came rise j held settled has s)
@@ -507,7 +507,7 @@ come_broken rules l0 l units results before rest g can split a rises = maps_then
 
 -- all groups
 pub come_to_end : (rules : CommitRules) (l0 l : Loaded) (units : List WorkUnit) (results : List UnitResult)
-    (gs : List (List Made)) {old new : Option Disk} → Split rules units results gs
+    (gs : List (List PulledUnit)) {old new : Option Disk} → Split rules units results gs
     → AddsMaps (Came rules l0 units results gs [] l) old new → AddsMaps (GoesOverAll rules l0 units results) old new
 come_to_end rules l0 l units results gs split a = maps_map
     (λ m added came j held settled has s.

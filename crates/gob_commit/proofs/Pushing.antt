@@ -4,7 +4,7 @@ use Rattle.std.proofs.Common.{sym}
 use Rattle.std.proofs.Common.{ap, ◌∙◌, arith, add-one, append_assoc, append-nil, Some, slice_get}
 use Rattle.std.specs.List.{flat_map}
 use Rattle.std.specs.Option.{option_to_list}
-use Rattle.gob_commit.specs.Groups.{picked}
+use Rattle.gob_commit.specs.Groups.{picked_items}
 
 drop_from : {X : Type 0} (xs : List X) (i : ℕ) (x : X) → i < length xs → x ≡ get_or xs i x
     → drop i xs ≡ x ∷ drop (suc i) xs
@@ -70,7 +70,7 @@ number_here (x ∷ xs) (suc i) below = number_here xs i (omega (arith, below))
 
 pub place_more : {X : Type 0} (xs : List X) (ps : List ℕ) (i : ℕ) (x y : X) (group new whole : List X)
     → i < length ps → get_or ps i 0 < length xs → x ≡ get_or xs (get_or ps i 0) x → y ≡ x → new ≡ group ++ y ∷ []
-    → group ++ picked xs (drop i ps) ≡ whole → new ++ picked xs (drop (i + 1) ps) ≡ whole
+    → group ++ picked_items xs (drop i ps) ≡ whole → new ++ picked_items xs (drop (i + 1) ps) ≡ whole
 place_more {X} xs ps i x y group new whole below within is same added so_far =
     given_more (λ (p : ℕ). option_to_list (slice_get xs p)) group new (y ∷ []) whole ps i (get_or ps i 0) below
     (number_here ps i below) (picked_one xs (get_or ps i 0) x y within is same) added so_far

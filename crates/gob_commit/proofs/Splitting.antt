@@ -27,9 +27,9 @@ use Rattle.gob_history.specs.Laws.{moves_of}
 use Rattle.gob_segments.specs.declared.change.Loaded.{Loaded}
 use Rattle.gob_state.specs.Committed.{AreKept, judged_by}
 use Rattle.gob_commit.specs.declared.rules.CommitRules.{CommitRules}
-use Rattle.gob_commit.specs.Groups.{ArePlaces, picked}
+use Rattle.gob_commit.specs.Groups.{ArePlaces, picked_items}
 use Rattle.gob_segments.specs.Loading.{LoadedFits}
-use Rattle.gob_commit.specs.Staged.{CanCommit, Made, NamesFit, Pair, all_pairs, judged, pairs_in, state_or}
+use Rattle.gob_commit.specs.Staged.{CanCommit, PulledUnit, NamesFit, Pair, all_pairs, judged_of, pairs_in, state_or}
 use Rattle.gob_commit.proofs.Differing.{clash, clash_turned, distinct_some, each_all, given_apart}
 use Rattle.gob_commit.proofs.Differing.{list_all_at}
 use Rattle.gob_commit.proofs.Differing.{list_all_of, names_differ, pairs_differ, some_given}
@@ -37,43 +37,43 @@ use Rattle.gob_commit.proofs.Joining.{judged_all, zip_firsts, zip_seconds, resul
 use Rattle.gob_commit.proofs.Placing.{picked_are}
 use Rattle.gob_ledger.proofs.Changes.{all_member}
 
-abbrev pub units_in : List Made → List WorkUnit
+abbrev pub units_in : List PulledUnit → List WorkUnit
 units_in g = map (λ w. w.0) g
 
-abbrev pub results_in : List Made → List UnitResult
+abbrev pub results_in : List PulledUnit → List UnitResult
 results_in g = map (λ w. w.1) g
 
-abbrev pub group_pairs : List Made → List Pair
+abbrev pub group_pairs : List PulledUnit → List Pair
 group_pairs g = all_pairs (results_in g)
 
-abbrev pub judged_in_groups : List (List Made) → List (List Judged)
-judged_in_groups gs = map (map judged) gs
+abbrev pub judged_in_groups : List (List PulledUnit) → List (List Judged)
+judged_in_groups gs = map (map judged_of) gs
 
 -- the units of some partitions
-abbrev pub some_parts : (List ℕ → Bool) → List Made → List Made
+abbrev pub some_parts : (List ℕ → Bool) → List PulledUnit → List PulledUnit
 some_parts keep made = filter (λ w. keep w.0.part) made
 
 -- the groups of a run's units
 pub record Split (rules : CommitRules) (units : List WorkUnit) (results : List UnitResult)
-    (gs : List (List Made)) : Type 0 where
+    (gs : List (List PulledUnit)) : Type 0 where
   pub are : judged_in_groups gs ≡ groups_of rules.scope (judged_by units results)
-  pub each : (g : List Made) → Contains gs g → (keep : List ℕ → Bool) × (g ≡ some_parts keep (zip units results))
+  pub each : (g : List PulledUnit) → Contains gs g → (keep : List ℕ → Bool) × (g ≡ some_parts keep (zip units results))
 
-zip_both : (g : List Made) → zip (units_in g) (results_in g) ≡ g
+zip_both : (g : List PulledUnit) → zip (units_in g) (results_in g) ≡ g
 zip_both [] = refl
-zip_both (w ∷ ws) = ap (λ (vs : List Made). w ∷ vs) (zip_both ws)
+zip_both (w ∷ ws) = ap (λ (vs : List PulledUnit). w ∷ vs) (zip_both ws)
 
-pub group_made : (g : List Made) → zip (units_in g) (results_in g) ≡ g
+pub group_made : (g : List PulledUnit) → zip (units_in g) (results_in g) ≡ g
 group_made g = zip_both g
 
-pub group_is : (g : List Made) → judged_by (units_in g) (results_in g) ≡ map judged g
-group_is g = sym (judged_all (units_in g) (results_in g)) ∙ ap (map judged) (zip_both g)
+pub group_is : (g : List PulledUnit) → judged_by (units_in g) (results_in g) ≡ map judged_of g
+group_is g = sym (judged_all (units_in g) (results_in g)) ∙ ap (map judged_of) (zip_both g)
 
 -- ---- a whole run, or a dataset
 
-all_kept : (made : List Made) → some_parts (λ part. true) made ≡ made
+all_kept : (made : List PulledUnit) → some_parts (λ part. true) made ≡ made
 all_kept [] = refl
-all_kept (w ∷ ws) = ap (λ (vs : List Made). w ∷ vs) (all_kept ws)
+all_kept (w ∷ ws) = ap (λ (vs : List PulledUnit). w ∷ vs) (all_kept ws)
 
 pub split_job : (rules : CommitRules) (units : List WorkUnit) (results : List UnitResult) → rules.scope ≡ scope.Job
     → Split rules units results (zip units results ∷ [])
@@ -87,7 +87,7 @@ split_job rules units results is = record {
       (in_cases (zip units results) [] g h);
 }
 
-picked_map : {X Y : Type 0} (f : X → Y) (xs : List X) (ps : List ℕ) → map f (picked xs ps) ≡ picked (map f xs) ps
+picked_map : {X Y : Type 0} (f : X → Y) (xs : List X) (ps : List ℕ) → map f (picked_items xs ps) ≡ picked_items (map f xs) ps
 picked_map f xs [] = refl
 picked_map {X} {Y} f xs (p ∷ ps) = one (slice_get xs p) (slice_get (map f xs) p) (got xs p) (picked_map f xs ps)
   where
@@ -96,29 +96,29 @@ picked_map {X} {Y} f xs (p ∷ ps) = one (slice_get xs p) (slice_get (map f xs) 
     got (y ∷ ys) zero = refl
     got (y ∷ ys) (suc i) = got ys i
 
-    one : (o : Option X) (q : Option Y) → q ≡ option_map f o → map f (picked xs ps) ≡ picked (map f xs) ps
-        → map f (option_to_list o ++ picked xs ps) ≡ option_to_list q ++ picked (map f xs) ps
-    one None q is later = later ∙ ap (λ r. option_to_list r ++ picked (map f xs) ps) (sym is)
+    one : (o : Option X) (q : Option Y) → q ≡ option_map f o → map f (picked_items xs ps) ≡ picked_items (map f xs) ps
+        → map f (option_to_list o ++ picked_items xs ps) ≡ option_to_list q ++ picked_items (map f xs) ps
+    one None q is later = later ∙ ap (λ r. option_to_list r ++ picked_items (map f xs) ps) (sym is)
     one (Some x) q is later =
-        ap (λ ys. f x ∷ ys) later ∙ ap (λ r. option_to_list r ++ picked (map f xs) ps) (sym is)
+        ap (λ ys. f x ∷ ys) later ∙ ap (λ r. option_to_list r ++ picked_items (map f xs) ps) (sym is)
 
 pub picked_units : (units : List WorkUnit) (results : List UnitResult) (ps : List ℕ) → length results ≡ length units
-    → units_in (picked (zip units results) ps) ≡ picked units ps
+    → units_in (picked_items (zip units results) ps) ≡ picked_items units ps
 picked_units units results ps counted =
-    picked_map (λ (w : Made). w.0) (zip units results) ps ∙ ap (λ us. picked us ps) (zip_firsts units results counted)
+    picked_map (λ (w : PulledUnit). w.0) (zip units results) ps ∙ ap (λ us. picked_items us ps) (zip_firsts units results counted)
 
 pub picked_results : (units : List WorkUnit) (results : List UnitResult) (ps : List ℕ) → length results ≡ length units
-    → results_in (picked (zip units results) ps) ≡ picked results ps
+    → results_in (picked_items (zip units results) ps) ≡ picked_items results ps
 picked_results units results ps counted =
-    picked_map (λ (w : Made). w.1) (zip units results) ps ∙ ap (λ rs. picked rs ps) (zip_seconds units results counted)
+    picked_map (λ (w : PulledUnit). w.1) (zip units results) ps ∙ ap (λ rs. picked_items rs ps) (zip_seconds units results counted)
 
-judged_groups : (made : List Made) (places : List (List ℕ))
-    → judged_in_groups (map (picked made) places) ≡ map (picked (map judged made)) places
+judged_groups : (made : List PulledUnit) (places : List (List ℕ))
+    → judged_in_groups (map (picked_items made) places) ≡ map (picked_items (map judged_of made)) places
 judged_groups made [] = refl
-judged_groups made (p ∷ ps) = λ i. picked_map judged made p i ∷ judged_groups made ps i
+judged_groups made (p ∷ ps) = λ i. picked_map judged_of made p i ∷ judged_groups made ps i
 
 parts_of : (units : List WorkUnit) (results : List UnitResult) → length results ≡ length units
-    → map (λ (u : WorkUnit). u.part) units ≡ map (λ (w : Made). w.0.part) (zip units results)
+    → map (λ (u : WorkUnit). u.part) units ≡ map (λ (w : PulledUnit). w.0.part) (zip units results)
 parts_of [] results counted = refl
 parts_of (u ∷ us) [] counted = absurd (omega (arith, counted))
 parts_of (u ∷ us) (r ∷ rs) counted = ap (λ (ps : List (List ℕ)). u.part ∷ ps) (parts_of us rs (omega (arith, counted)))
@@ -132,18 +132,18 @@ units_of_judged (u ∷ us) (r ∷ rs) counted =
 
 pub split_datasets : (rules : CommitRules) (units : List WorkUnit) (results : List UnitResult)
     (places : List (List ℕ)) → rules.scope ≡ scope.Dataset → length results ≡ length units → ArePlaces units places
-    → Split rules units results (map (picked (zip units results)) places)
+    → Split rules units results (map (picked_items (zip units results)) places)
 split_datasets rules units results places is counted are = record {
   are = judged_groups (zip units results) places
-      ∙ ap (λ js. map (picked js) places) (judged_all units results)
+      ∙ ap (λ js. map (picked_items js) places) (judged_all units results)
       ∙ are.all (judged_by units results) (units_of_judged units results counted)
       ∙ ap (λ s. groups_of s (judged_by units results)) (sym is);
   each = λ g h.
-      let found = in_map (picked (zip units results)) places g h in
+      let found = in_map (picked_items (zip units results)) places g h in
       let d = are.each found.0 found.1 in (
         λ part. bytes_eq d.0 (dataset_of part),
-        sym found.2 ∙ ap (picked (zip units results)) d.1
-            ∙ picked_are (λ (w : Made). w.0.part) d.0 (zip units results) [] (zip units results) units 0 refl refl
+        sym found.2 ∙ ap (picked_items (zip units results)) d.1
+            ∙ picked_are (λ (w : PulledUnit). w.0.part) d.0 (zip units results) [] (zip units results) units 0 refl refl
             (parts_of units results counted),
       );
 }
@@ -167,41 +167,41 @@ pub rest_apart : (before rest : List (List Judged)) (g : List Judged) → EachAp
 rest_apart [] rest g apart h k = apart.0 h k
 rest_apart (b ∷ bs) rest g apart h k = rest_apart bs rest g apart.1 h k
 
-pub split_apart : (rules : CommitRules) (units : List WorkUnit) (results : List UnitResult) (gs : List (List Made))
+pub split_apart : (rules : CommitRules) (units : List WorkUnit) (results : List UnitResult) (gs : List (List PulledUnit))
     → Split rules units results gs → EachApart (judged_in_groups gs)
 split_apart rules units results gs s = subst EachApart (sym s.are) (grouped rules.scope (judged_by units results)).apart
 
 -- ---- what holds of a run's units holds of a group's
 
-in_whole : (keep : List ℕ → Bool) (made g : List Made) (w : Made) → g ≡ some_parts keep made → Contains g w
+in_whole : (keep : List ℕ → Bool) (made g : List PulledUnit) (w : PulledUnit) → g ≡ some_parts keep made → Contains g w
     → Contains made w
 in_whole keep made g w is h =
-    (in_filter (λ (v : Made). keep v.0.part) made w (subst (λ (x : List Made). Contains x w) is h)).0
+    (in_filter (λ (v : PulledUnit). keep v.0.part) made w (subst (λ (x : List PulledUnit). Contains x w) is h)).0
 
-pub made_in : (rules : CommitRules) (units : List WorkUnit) (results : List UnitResult) (gs : List (List Made))
-    (g : List Made) (w : Made) → Split rules units results gs → Contains gs g → Contains g w
+pub made_in : (rules : CommitRules) (units : List WorkUnit) (results : List UnitResult) (gs : List (List PulledUnit))
+    (g : List PulledUnit) (w : PulledUnit) → Split rules units results gs → Contains gs g → Contains g w
     → Contains (zip units results) w
 made_in rules units results gs g w s h k =
     let found = s.each g h in in_whole found.0 (zip units results) g w found.1 k
 
-pub unit_in : (units : List WorkUnit) (results : List UnitResult) (w : Made) → length results ≡ length units
+pub unit_in : (units : List WorkUnit) (results : List UnitResult) (w : PulledUnit) → length results ≡ length units
     → Contains (zip units results) w → Contains units w.0
 unit_in units results w counted h =
     subst (λ (us : List WorkUnit). Contains us w.0) (zip_firsts units results counted)
-    (map_in (λ (v : Made). v.0) (zip units results) w h)
+    (map_in (λ (v : PulledUnit). v.0) (zip units results) w h)
 
-abbrev made_pairs : Made → List Pair
+abbrev made_pairs : PulledUnit → List Pair
 made_pairs w = pairs_in w.1
 
-pairs_of_made : (g : List Made) → group_pairs g ≡ flat_map made_pairs g
-pairs_of_made g = flat_map-map pairs_in (λ (w : Made). w.1) g
+pairs_of_made : (g : List PulledUnit) → group_pairs g ≡ flat_map made_pairs g
+pairs_of_made g = flat_map-map pairs_in (λ (w : PulledUnit). w.1) g
 
 pairs_of_all : (units : List WorkUnit) (results : List UnitResult) → length results ≡ length units
     → all_pairs results ≡ flat_map made_pairs (zip units results)
 pairs_of_all units results counted =
     ap all_pairs (sym (zip_seconds units results counted)) ∙ pairs_of_made (zip units results)
 
-fit_some : (job : List ℕ) (keep : Made → Bool) (made : List Made) → NamesFit job (flat_map made_pairs made)
+fit_some : (job : List ℕ) (keep : PulledUnit → Bool) (made : List PulledUnit) → NamesFit job (flat_map made_pairs made)
     → NamesFit job (flat_map made_pairs (filter keep made))
 fit_some job keep made fit =
     let all = flat_map made_pairs made in
@@ -226,26 +226,26 @@ fit_some job keep made fit =
     }
 
 pub group_fit : (job : List ℕ) (units : List WorkUnit) (results : List UnitResult) (keep : List ℕ → Bool)
-    (g : List Made) → length results ≡ length units → g ≡ some_parts keep (zip units results)
+    (g : List PulledUnit) → length results ≡ length units → g ≡ some_parts keep (zip units results)
     → NamesFit job (all_pairs results) → NamesFit job (group_pairs g)
 group_fit job units results keep g counted is fit =
     subst (NamesFit job) (sym (pairs_of_made g))
-    (subst (λ (x : List Made). NamesFit job (flat_map made_pairs x)) (sym is)
+    (subst (λ (x : List PulledUnit). NamesFit job (flat_map made_pairs x)) (sym is)
     (fit_some job (λ w. keep w.0.part) (zip units results)
     (subst (NamesFit job) (pairs_of_all units results counted) fit)))
 
-pub pair_in : (units : List WorkUnit) (results : List UnitResult) (g : List Made) (p : Pair)
-    → length results ≡ length units → ((w : Made) → Contains g w → Contains (zip units results) w)
+pub pair_in : (units : List WorkUnit) (results : List UnitResult) (g : List PulledUnit) (p : Pair)
+    → length results ≡ length units → ((w : PulledUnit) → Contains g w → Contains (zip units results) w)
     → Contains (group_pairs g) p → Contains (all_pairs results) p
 pair_in units results g p counted within h =
     let found = in_flat_map made_pairs g p (subst (λ (x : List Pair). Contains x p) (pairs_of_made g) h) in
     flat_map_in pairs_in results found.0.1 p (result_of units results found.0 counted (within found.0 found.1)) found.2
 
 -- files of different groups have different names
-pub sources_apart : (units : List WorkUnit) (results : List UnitResult) (g h : List Made) (p q : Pair) (job : List ℕ)
-    → length results ≡ length units → NamesFit job (all_pairs results) → NoneShared (map judged g) (map judged h)
-    → ((w : Made) → Contains g w → Contains (zip units results) w)
-    → ((w : Made) → Contains h w → Contains (zip units results) w)
+pub sources_apart : (units : List WorkUnit) (results : List UnitResult) (g h : List PulledUnit) (p q : Pair) (job : List ℕ)
+    → length results ≡ length units → NamesFit job (all_pairs results) → NoneShared (map judged_of g) (map judged_of h)
+    → ((w : PulledUnit) → Contains g w → Contains (zip units results) w)
+    → ((w : PulledUnit) → Contains h w → Contains (zip units results) w)
     → Contains (group_pairs g) p → Contains (group_pairs h) q → p.0 ≢ q.0
 sources_apart units results g h p q job counted fit none ing inh kp kq same =
     let fp = in_flat_map made_pairs g p (subst (λ (x : List Pair). Contains x p) (pairs_of_made g) kp) in
@@ -255,8 +255,8 @@ sources_apart units results g h p q job counted fit none ing inh kp kq same =
     let apart : clash p q ≡ false =
     given_apart clash clash_turned made_pairs (zip units results) fp.0 fq.0 p q differ.apart (ing fp.0 fp.1)
     (inh fq.0 fq.1)
-    (λ e. none (judged fp.0) (judged fq.0) (map_in judged g fp.0 fp.1) (map_in judged h fq.0 fq.1)
-    (ap (λ (w : Made). w.0.part) e)) fp.2 fq.2 in
+    (λ e. none (judged_of fp.0) (judged_of fq.0) (map_in judged_of g fp.0 fp.1) (map_in judged_of h fq.0 fq.1)
+    (ap (λ (w : PulledUnit). w.0.part) e)) fp.2 fq.2 in
     let level : bytes_eq p.0 q.0 ≡ true = subst (λ x. bytes_eq p.0 x ≡ true) same (name_itself p.0) in
     let no : false ≡ true = sym apart ∙ ap (λ b. b || bytes_eq p.0 q.1 || bytes_eq p.1 q.0 || bytes_eq p.1 q.1) level
     ∙ ors (bytes_eq p.0 q.1) (bytes_eq p.1 q.0) (bytes_eq p.1 q.1) in cc
@@ -264,27 +264,27 @@ sources_apart units results g h p q job counted fit none ing inh kp kq same =
     ors : (a b c : Bool) → (true || a || b || c) ≡ true
     ors a b c = refl
 
-filter_judged : (keep : List ℕ → Bool) (made : List Made)
-    → map judged (some_parts keep made) ≡ filter (λ (j : Judged). keep j.0.part) (map judged made)
+filter_judged : (keep : List ℕ → Bool) (made : List PulledUnit)
+    → map judged_of (some_parts keep made) ≡ filter (λ (j : Judged). keep j.0.part) (map judged_of made)
 filter_judged keep [] = refl
 filter_judged keep (w ∷ ws) = cases (keep w.0.part) (filter_judged keep ws)
   where
-    cases : (b : Bool) → map judged (some_parts keep ws) ≡ filter (λ (j : Judged). keep j.0.part) (map judged ws)
-        → map judged (cond b (w ∷ some_parts keep ws) (some_parts keep ws))
-        ≡ cond b (judged w ∷ filter (λ (j : Judged). keep j.0.part) (map judged ws))
-        (filter (λ (j : Judged). keep j.0.part) (map judged ws))
-    cases true later = ap (λ (js : List Judged). judged w ∷ js) later
+    cases : (b : Bool) → map judged_of (some_parts keep ws) ≡ filter (λ (j : Judged). keep j.0.part) (map judged_of ws)
+        → map judged_of (cond b (w ∷ some_parts keep ws) (some_parts keep ws))
+        ≡ cond b (judged_of w ∷ filter (λ (j : Judged). keep j.0.part) (map judged_of ws))
+        (filter (λ (j : Judged). keep j.0.part) (map judged_of ws))
+    cases true later = ap (λ (js : List Judged). judged_of w ∷ js) later
     cases false later = later
 
-pub units_judged : (g : List Made) → map (λ (j : Judged). j.0) (map judged g) ≡ units_in g
+pub units_judged : (g : List PulledUnit) → map (λ (j : Judged). j.0) (map judged_of g) ≡ units_in g
 units_judged [] = refl
 units_judged (w ∷ ws) = ap (λ (us : List WorkUnit). w.0 ∷ us) (units_judged ws)
 
 pub group_units_fit : (parts : Table Marks) (units : List WorkUnit) (results : List UnitResult)
-    (keep : List ℕ → Bool) (g : List Made) → length results ≡ length units
+    (keep : List ℕ → Bool) (g : List PulledUnit) → length results ≡ length units
     → g ≡ some_parts keep (zip units results) → UnitsFit parts units → UnitsFit parts (units_in g)
 group_units_fit parts units results keep g counted is fit =
-    let all = map judged (zip units results) in
+    let all = map judged_of (zip units results) in
     let whole : UnitsFit parts (map (λ (j : Judged). j.0) all) =
     subst (UnitsFit parts) (sym (units_judged (zip units results) ∙ zip_firsts units results counted)) fit in
     subst (UnitsFit parts)
@@ -292,19 +292,19 @@ group_units_fit parts units results keep g counted is fit =
     ∙ units_judged (some_parts keep (zip units results)) ∙ ap units_in (sym is))
     (group_fits parts keep all whole)
 
-group_kept : (units : List WorkUnit) (results : List UnitResult) (g : List Made) → length results ≡ length units
-    → ((w : Made) → Contains g w → Contains (zip units results) w) → AreKept units results
+group_kept : (units : List WorkUnit) (results : List UnitResult) (g : List PulledUnit) → length results ≡ length units
+    → ((w : PulledUnit) → Contains g w → Contains (zip units results) w) → AreKept units results
     → AreKept (units_in g) (results_in g)
 group_kept units results g counted within kept = record {
-  proper = λ u h. let found = in_map (λ (w : Made). w.0) g u h in
+  proper = λ u h. let found = in_map (λ (w : PulledUnit). w.0) g u h in
       kept.proper u (subst (Contains units) found.2 (unit_in units results found.0 counted (within found.0 found.1)));
-  counted = λ r c h e. let found = in_map (λ (w : Made). w.1) g r h in
+  counted = λ r c h e. let found = in_map (λ (w : PulledUnit). w.1) g r h in
       kept.counted r c (subst (Contains results) found.2 (result_of units results found.0 counted (within found.0
       found.1))) e;
 }
 
 pub group_can : (rules : CommitRules) (l0 l : Loaded) (units : List WorkUnit) (results : List UnitResult)
-    (gs : List (List Made)) (g : List Made) → CanCommit rules l0 units results → Split rules units results gs
+    (gs : List (List PulledUnit)) (g : List PulledUnit) → CanCommit rules l0 units results → Split rules units results gs
     → Contains gs g → LoadedFits l → UnitsFit (state_or rules.branches l.state).parts (units_in g)
     → CanCommit rules l (units_in g) (results_in g)
 group_can rules l0 l units results gs g can s h fits fit =
@@ -315,7 +315,7 @@ group_can rules l0 l units results gs g can s h fits fit =
       loaded = fits;
       can = record {
         pipeline = can.can.pipeline;
-        counted = length-map g (λ (w : Made). w.1) ∙ sym (length-map g (λ (w : Made). w.0));
+        counted = length-map g (λ (w : PulledUnit). w.1) ∙ sym (length-map g (λ (w : PulledUnit). w.0));
         fits = fit;
         kept = group_kept units results g can.can.counted (λ w k. made_in rules units results gs g w s h k)
             can.can.kept;

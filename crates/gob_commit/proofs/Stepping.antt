@@ -23,8 +23,8 @@ use Rattle.gob_history.specs.Laws.{group_steps, moves_of, removes_of, staged_sta
 use Rattle.gob_seq.specs.Maps.{CommitsByName, EndsAs, GoesOver, IsReady, SettlesWell, after_write}
 use Rattle.gob_seq.proofs.Named.{below_job}
 use Rattle.gob_seq.proofs.Trails.{if_both, maps_both, maps_known, rises_map}
-use Rattle.gob_commit.specs.Going.{ChangeNamed, InOrder, StepsEnd, StepsRise, settled_by, with_state}
-use Rattle.gob_commit.specs.Staged.{AreThere, NamesFit, Pair}
+use Rattle.gob_commit.specs.Going.{ChangeNamed, SortsPairs, StepsEnd, StepsRise, settled_by, with_state}
+use Rattle.gob_commit.specs.Staged.{AreReadyToMove, NamesFit, Pair}
 use Rattle.gob_commit.proofs.Differing.{list_all_of}
 use Rattle.gob_commit.proofs.Fitting.{in_order, state_is_staged}
 use Rattle.gob_commit.proofs.Reading.{reads_before, reads_then}
@@ -62,15 +62,15 @@ state_cleaned job c m = without_alike job (with_state job c m) m (state_below jo
 
 -- ---- the sequence can be done
 
-moved_can : (job : List ℕ) (c : Change) (pairs : List Pair) (m : Files) (p : Pair) → AreThere job pairs m
+moved_can : (job : List ℕ) (c : Change) (pairs : List Pair) (m : Files) (p : Pair) → AreReadyToMove job pairs m
     → NamesFit job pairs → Contains pairs p → can_do (with_state job c m) (move p.0 p.1) ≡ true
 moved_can job c pairs m p there fit h =
     let here : is_some (with_state job c m p.0) ≡ true =
     ap is_some (others_there job c m p.0 (fit.apart p h)) ∙ there.there p h in
     ap (λ b. b || is_some (with_state job c m p.1)) here
 
-each_can : (job : List ℕ) (c : Change) (pairs sorted : List Pair) (m : Files) (s : CommitStep) → AreThere job pairs m
-    → NamesFit job pairs → InOrder job c pairs sorted → Contains (group_steps job c sorted) s
+each_can : (job : List ℕ) (c : Change) (pairs sorted : List Pair) (m : Files) (s : CommitStep) → AreReadyToMove job pairs m
+    → NamesFit job pairs → SortsPairs job c pairs sorted → Contains (group_steps job c sorted) s
     → can_do (with_state job c m) s ≡ true
 each_can job c pairs sorted m s there fit order h = ⊎_elim
     (λ k. let found = in_map (λ (p : Pair). move p.0 p.1) sorted s k in
@@ -84,8 +84,8 @@ each_can job c pairs sorted m s there fit order h = ⊎_elim
     (in_cases (move (staged_state job) c.target) (removes_of c.removes) s k))
     (Contains-append_cases (moves_of sorted) (move (staged_state job) c.target ∷ removes_of c.removes) s h)
 
-pub steps_ready : (job : List ℕ) (c : Change) (pairs sorted : List Pair) (m : Files) → AreThere job pairs m
-    → NamesFit job pairs → InOrder job c pairs sorted → IsReady job (group_steps job c sorted) (with_state job c m)
+pub steps_ready : (job : List ℕ) (c : Change) (pairs sorted : List Pair) (m : Files) → AreReadyToMove job pairs m
+    → NamesFit job pairs → SortsPairs job c pairs sorted → IsReady job (group_steps job c sorted) (with_state job c m)
 steps_ready job c pairs sorted m there fit order = record {
   closed = others_there job c m (sequence_name job) (not_the_state job (sequence_name job) (not_staged job))
       ∙ there.closed;
@@ -97,10 +97,10 @@ steps_ready job c pairs sorted m there fit order = record {
 
 -- where the pairs are there
 abbrev pub WhereThere : List ℕ → List Pair → (Files → List Files → Type 0) → Files → List Files → Type 0
-WhereThere job pairs P m xs = AreThere job pairs m → P m xs
+WhereThere job pairs P m xs = AreReadyToMove job pairs m → P m xs
 
 pub where_there : (job : List ℕ) (pairs : List Pair) {P : Files → List Files → Type 0} {old new : Option Disk}
-    → IfSome old (λ d. AreThere job pairs d.files) → AddsMaps (WhereThere job pairs P) old new → AddsMaps P old new
+    → IfSome old (λ d. AreReadyToMove job pairs d.files) → AddsMaps (WhereThere job pairs P) old new → AddsMaps P old new
 where_there job pairs {P} {old} there a = maps_known (if_both old (λ d t xs p. p t) there) a
 
 as_before : (job : List ℕ) (m : Files) (xs : List Files) → m (sequence_name job) ≡ None
@@ -140,18 +140,18 @@ then_rises job c sorted m last xs ys each is over =
 
 -- ---- the maps of the calls
 
-pub nothing_rises : (job : List ℕ) (c : Change) (pairs : List Pair) (o : Option Disk) → InOrder job c pairs pairs
+pub nothing_rises : (job : List ℕ) (c : Change) (pairs : List Pair) (o : Option Disk) → SortsPairs job c pairs pairs
     → AddsMaps (StepsRise job c pairs) o o
 unfolding Rises
 nothing_rises job c pairs o order = maps_nothing (StepsRise job c pairs)
     (λ m. record { sorted = pairs; order = order; rises = ([], [], refl, tt, ([], [], refl, tt, refl)); reads = tt }) o
 
 pub as_it_is : (job : List ℕ) (c : Change) (pairs : List Pair) → is_file_name job ≡ true → NamesFit job pairs
-    → ChangeNamed job c → InOrder job c pairs pairs
+    → ChangeNamed job c → SortsPairs job c pairs pairs
 as_it_is job c pairs named fit change = in_order job c pairs pairs named (IsPermutation-refl pairs) fit change
 
 pub written_rises : (job name : List ℕ) (c : Change) (pairs sorted : List Pair) {old new : Option Disk}
-    → name ≡ staged_state job → InOrder job c pairs sorted → Along (OnlyAt name) old new
+    → name ≡ staged_state job → SortsPairs job c pairs sorted → Along (OnlyAt name) old new
     → AddsMaps (WhereThere job pairs (StepsRise job c pairs)) old new
 written_rises job name c pairs sorted {old} {new} is order a = maps_map
     (λ m xs each there. record {
@@ -170,12 +170,12 @@ state_ends job name bytes c {old} {new} named text a =
     (subst (λ b. AddsMaps (EndsAs (after_write name b)) old new) text a)
 
 pub ready_then : (job : List ℕ) (c : Change) (pairs sorted : List Pair) {old new : Option Disk} → NamesFit job pairs
-    → InOrder job c pairs sorted → IfSome old (λ d. AreThere job pairs d.files)
+    → SortsPairs job c pairs sorted → IfSome old (λ d. AreReadyToMove job pairs d.files)
     → AddsMaps (EndsAs (with_state job c)) old new
     → IfSome new (λ d. IsReady job (group_steps job c sorted) d.files)
 ready_then job c pairs sorted {old} {new} fit order there a = told old new there a.told
   where
-    told : (o n : Option Disk) → IfSome o (λ d. AreThere job pairs d.files)
+    told : (o n : Option Disk) → IfSome o (λ d. AreReadyToMove job pairs d.files)
         → Both (Went (EndsAs (with_state job c))) o n → IfSome n (λ d. IsReady job (group_steps job c sorted) d.files)
     told None None t w = tt
     told (Some d) None t w = tt
@@ -185,7 +185,7 @@ ready_then job c pairs sorted {old} {new} fit order there a = told old new there
         (steps_ready job c pairs sorted d.files t fit order)
 
 pub done_rises : (job name : List ℕ) (c : Change) (pairs sorted : List Pair) {old between new : Option Disk}
-    → name ≡ staged_state job → InOrder job c pairs sorted → Along (OnlyAt name) old between
+    → name ≡ staged_state job → SortsPairs job c pairs sorted → Along (OnlyAt name) old between
     → AddsMaps (EndsAs (with_state job c)) old between
     → AddsMaps (GoesOver job (group_steps job c sorted)) between new
     → Along (CommitsByName job (group_steps job c sorted)) between new
@@ -200,7 +200,7 @@ done_rises job name c pairs sorted {old} {between} is order a ends b reads = map
     (maps_both (subst (λ n. Along (OnlyAt n) old between) is a) ends) (maps_both b reads)
 
 pub done_ends : (job name : List ℕ) (c : Change) (pairs sorted : List Pair) {old between new : Option Disk}
-    → name ≡ staged_state job → InOrder job c pairs sorted → Along (OnlyAt name) old between
+    → name ≡ staged_state job → SortsPairs job c pairs sorted → Along (OnlyAt name) old between
     → AddsMaps (EndsAs (with_state job c)) old between
     → AddsMaps (GoesOver job (group_steps job c sorted)) between new
     → Along (CommitsByName job (group_steps job c sorted)) between new

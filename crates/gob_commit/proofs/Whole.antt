@@ -8,8 +8,8 @@ use Rattle.gob_plan.specs.declared.units.Unit.{Unit as WorkUnit}
 use Rattle.gob_plan.specs.declared.units.UnitResult.{UnitResult}
 use Rattle.gob_segments.specs.declared.change.Loaded.{Loaded}
 use Rattle.gob_commit.specs.declared.rules.CommitRules.{CommitRules}
-use Rattle.gob_commit.specs.Going.{GoesAlong, GroupEnds, GroupRises, LeadsToNext, LeavesStaging}
-use Rattle.gob_commit.specs.Staged.{AreThere, CanCommit, all_pairs}
+use Rattle.gob_commit.specs.Going.{CommitsAlong, GroupEnds, GroupRises, LeadsToNext, LeavesStaging}
+use Rattle.gob_commit.specs.Staged.{AreReadyToMove, CanCommit, all_pairs}
 use Rattle.gob_commit.proofs.Joining.{zip_firsts, zip_seconds}
 use Rattle.gob_commit.proofs.Looping.{LoopDone, both_moved, split_done}
 use Rattle.gob_commit.proofs.Progress.{came_first, come_broken, come_more, so_far_first, so_far_more}
@@ -17,8 +17,8 @@ use Rattle.gob_commit.proofs.Splitting.{results_in, split_job, units_in}
 
 pub job_broken : (rules : CommitRules) (l : Loaded) (units : List WorkUnit) (results : List UnitResult)
     {old : Option Disk} (new : Option Disk) → rules.scope ≡ scope.Job → CanCommit rules l units results
-    → IfSome old (λ d. AreThere rules.job.now (all_pairs results) d.files)
-    → AddsMaps (GroupRises rules l units results) old new → AddsMaps (GoesAlong rules l units results) old new
+    → IfSome old (λ d. AreReadyToMove rules.job.now (all_pairs results) d.files)
+    → AddsMaps (GroupRises rules l units results) old new → AddsMaps (CommitsAlong rules l units results) old new
 job_broken rules l units results {old} new is can there rises =
     let g = zip units results in
     let split = split_job rules units results is in
@@ -29,7 +29,7 @@ job_broken rules l units results {old} new is can there rises =
 
 pub job_done : (rules : CommitRules) (l : Loaded) (units : List WorkUnit) (results : List UnitResult) (after : Loaded)
     {old : Option Disk} (new : Option Disk) → rules.scope ≡ scope.Job → CanCommit rules l units results
-    → IfSome old (λ d. AreThere rules.job.now (all_pairs results) d.files)
+    → IfSome old (λ d. AreReadyToMove rules.job.now (all_pairs results) d.files)
     → LeadsToNext rules l units results after → AddsMaps (GroupEnds rules l units results after) old new
     → AddsMaps (LeavesStaging rules.job.now (all_pairs results)) old new → LoopDone rules l units results after old new
 job_done rules l units results after {old} new is can there leads ends leaves =

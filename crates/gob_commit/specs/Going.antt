@@ -73,8 +73,8 @@ OfEachJob rules l units results P m added = (j : Job) (held : Held) (settled : F
     added
 
 -- whatever is answered
-abbrev pub GoesAlong : CommitRules → Loaded → List WorkUnit → List UnitResult → Files → List Files → Type 0
-GoesAlong rules l units results = OfEachJob rules l units results
+abbrev pub CommitsAlong : CommitRules → Loaded → List WorkUnit → List UnitResult → Files → List Files → Type 0
+CommitsAlong rules l units results = OfEachJob rules l units results
     (λ j held groups settled m added. GoneAlong j held l.state groups settled added)
 
 -- all groups, and the staging is cleaned
@@ -170,7 +170,7 @@ pub record ChangeNamed (job : List ℕ) (change : Change) : Type 0 where
   pub once : IsDistinct bytes_eq (change.target ∷ change.removes)
 
 -- the same pairs in another order, by which a sequence does the change
-pub record InOrder (job : List ℕ) (change : Change) (pairs sorted : List Pair) : Type 0 where
+pub record SortsPairs (job : List ℕ) (change : Change) (pairs sorted : List Pair) : Type 0 where
   pub from : (p : Pair) → Contains pairs p → Contains sorted p
   pub back : (p : Pair) → Contains sorted p → Contains pairs p
   pub fits : WellFormed job (group_steps job change sorted)
@@ -178,7 +178,7 @@ pub record InOrder (job : List ℕ) (change : Change) (pairs sorted : List Pair)
 -- the steps do the change, with the pairs in some order
 pub record DoesChange (job : List ℕ) (change : Change) (pairs : List Pair) (steps : List CommitStep) : Type 0 where
   pub sorted : List Pair
-  pub order : InOrder job change pairs sorted
+  pub order : SortsPairs job change pairs sorted
   pub are : steps ≡ group_steps job change sorted
 
 -- the map with the state staged
@@ -194,14 +194,14 @@ settled_by job change sorted m = without_staging job (do_steps (group_steps job 
 pub record StepsRise (job : List ℕ) (change : Change) (pairs : List Pair) (m : Files) (added : List Files) : Type 0
   where
     pub sorted : List Pair
-    pub order : InOrder job change pairs sorted
+    pub order : SortsPairs job change pairs sorted
     pub rises : Rises (SettlesAs job) (without_staging job m ∷ settled_by job change sorted m ∷ []) added
     pub reads : EachOf (PublishedFrom job (without_staging job m ∷ settled_by job change sorted m ∷ [])) added
 
 -- all steps are done
 pub record StepsEnd (job : List ℕ) (change : Change) (pairs : List Pair) (m : Files) (added : List Files) : Type 0 where
   pub sorted : List Pair
-  pub order : InOrder job change pairs sorted
+  pub order : SortsPairs job change pairs sorted
   pub rises : Rises (SettlesAs job) (without_staging job m ∷ settled_by job change sorted m ∷ []) added
   pub reads : EachOf (PublishedFrom job (without_staging job m ∷ settled_by job change sorted m ∷ [])) added
   pub ends : last_map m added ≡ part_done job (group_steps job change sorted) (with_state job change m)

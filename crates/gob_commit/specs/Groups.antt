@@ -25,13 +25,13 @@ places_from n dataset (u ∷ us) =
     else places_from (n + 1) dataset us
 
 -- what stands at these places
-abbrev pub picked : {X : Type 0} → List X → List ℕ → List X
-picked xs places = flat_map (λ p. option_to_list (slice_get xs p)) places
+abbrev pub picked_items : {X : Type 0} → List X → List ℕ → List X
+picked_items xs places = flat_map (λ p. option_to_list (slice_get xs p)) places
 
 -- these are the places of the units of each dataset, in byte order of datasets
 pub record ArePlaces (units : List WorkUnit) (groups : List (List ℕ)) : Type 0 where
   pub each : (places : List ℕ) → Contains groups places → (dataset : List ℕ) × (places ≡ places_from 0 dataset units)
-  pub all : (js : List Judged) → map (λ j. j.0) js ≡ units → map (picked js) groups ≡ groups_of scope.Dataset js
+  pub all : (js : List Judged) → map (λ j. j.0) js ≡ units → map (picked_items js) groups ≡ groups_of scope.Dataset js
 
 -- the list, where it has a member
 abbrev pub some_of : {X : Type 0} → List X → Option (List X)
@@ -45,9 +45,9 @@ pub record PlacesAre (units : List WorkUnit) (m : BTreeMap (Bor (List ℕ)) (Vec
       ≡ some_of (places_from 0 q units)
 
 -- a unit of this dataset that isn't good
-abbrev pub is_bad : List ℕ → Judged → Bool
-is_bad dataset j = bytes_eq dataset (dataset_of j.0.part) && not (is_good j.1)
+abbrev pub is_bad_unit : List ℕ → Judged → Bool
+is_bad_unit dataset j = bytes_eq dataset (dataset_of j.0.part) && not (is_good j.1)
 
 -- the set has the datasets with a unit that isn't good
 abbrev pub BadAre : {S : Type 0} → List Judged → HashSet (Bor (List ℕ)) S → Type 0
-BadAre js bad = (q : Bor (List ℕ)) → contains (λ a b. bytes_eq a.now b.now) bad q ≡ list_any (is_bad q.now) js
+BadAre js bad = (q : Bor (List ℕ)) → contains (λ a b. bytes_eq a.now b.now) bad q ≡ list_any (is_bad_unit q.now) js

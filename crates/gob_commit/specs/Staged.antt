@@ -28,12 +28,12 @@ use Rattle.gob_commit.specs.declared.rules.CommitRules.{CommitRules}
 use Rattle.gob_segments.specs.Loading.{IsLoaded, LoadedFits}
 
 -- a unit with its result
-abbrev pub Made : Type 0
-Made = WorkUnit × UnitResult
+abbrev pub PulledUnit : Type 0
+PulledUnit = WorkUnit × UnitResult
 
 -- the same without its staged files
-abbrev pub judged : Made → Judged
-judged w = (w.0, verdict_in w.1)
+abbrev pub judged_of : PulledUnit → Judged
+judged_of w = (w.0, verdict_in w.1)
 
 -- the name of a staged file, and the one that it is to have
 abbrev pub Pair : Type 0
@@ -90,7 +90,7 @@ pub record CanCommit (rules : CommitRules) (l : Loaded) (units : List WorkUnit) 
     pub names : NamesFit rules.job.now (all_pairs results)
 
 -- no sequence is open, and what is to be moved is there
-pub record AreThere (job : List ℕ) (pairs : List Pair) (m : Files) : Type 0 where
+pub record AreReadyToMove (job : List ℕ) (pairs : List Pair) (m : Files) : Type 0 where
   pub closed : m (sequence_name job) ≡ None
   pub there : (p : Pair) → Contains pairs p → IsSome (m p.0)
 
@@ -112,8 +112,8 @@ pub record HasStaged (j : Job) (held : Held) (l : Loaded) (units : List WorkUnit
   pub keeps : KeepsAs j.name settled kept
   pub loaded : IsLoaded kept l
   pub over : StagedOver j.name settled m
-  pub staged : (w : Made) → Contains (zip units results) w → is_good (verdict_in w.1) ≡ true
-      → StagedFor j held (judged w ∷ []) m (pairs_in w.1)
+  pub staged : (w : PulledUnit) → Contains (zip units results) w → is_good (verdict_in w.1) ≡ true
+      → StagedFor j held (judged_of w ∷ []) m (pairs_in w.1)
 
 -- the same of a run's units, each with its range
 pub record RunHasStaged (j : Job) (held : Held) (l : Loaded) (units : List WorkUnit) (results : List UnitResult)

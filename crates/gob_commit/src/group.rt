@@ -12,7 +12,7 @@ ghost use Rattle.gob_seq.specs.Faults.{RoseIfFailed};
 ghost use Rattle.gob_state.specs.Committed.{verdicts_in};
 ghost use Rattle.gob_commit.specs.Going.{GroupEnds, GroupRises, LeadsToNext, LeavesStaging, StepsEnd, StepsRise};
 ghost use Rattle.gob_segments.specs.Loading.{LoadedFits};
-ghost use Rattle.gob_commit.specs.Staged.{AreThere, CanCommit, NamesFit, UnitsCanCommit, all_pairs, state_or};
+ghost use Rattle.gob_commit.specs.Staged.{AreReadyToMove, CanCommit, NamesFit, UnitsCanCommit, all_pairs, state_or};
 
 use crate::CommitRules;
 use crate::sequence::{sequence_of, staged_state_name};
@@ -34,7 +34,7 @@ pub(crate) fn commit_group<V: Volume>(
     results: &[UnitResult],
 ) -> Result<Loaded, CommitFault>
     requires can { CanCommit rules.now loaded units.now results.now }
-    requires there { IfSome (V.disk volume.old) (λ d. AreThere rules.now.job.now (all_pairs results.now) d.files) }
+    requires there { IfSome (V.disk volume.old) (λ d. AreReadyToMove rules.now.job.now (all_pairs results.now) d.files) }
     ensures value { IfOk result (LeadsToNext rules.now loaded units.now results.now) }
     ensures rises { AddsMaps (GroupRises rules.now loaded units.now results.now)
         (V.disk volume.old) (V.disk volume.new) }
@@ -117,7 +117,7 @@ fn commit_change<V: Volume>(
     requires follows { IfSome before.now.state (λ s.
         wants_whole before.now.version before.now.deltas after.now ≡ false → StateFollows s after.now) }
     requires names { NamesFit job.now (all_pairs results.now) }
-    requires there { IfSome (V.disk volume.old) (λ d. AreThere job.now (all_pairs results.now) d.files) }
+    requires there { IfSome (V.disk volume.old) (λ d. AreReadyToMove job.now (all_pairs results.now) d.files) }
     ensures deltas { IfOk result (λ deltas. deltas
         ≡ (change_of job.now before.now.state before.now.deltas before.now.version after.now).changes) }
     ensures rises { AddsMaps (StepsRise job.now

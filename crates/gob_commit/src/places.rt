@@ -4,7 +4,7 @@ ghost use Rattle.std.specs.Prelude.{◌≡◌, ◌<◌, ℕ, All, IfOk, length, 
 ghost use Rattle.std.specs.BTreeMap as tree;
 ghost use Rattle.std.specs.Cmp.Lexicographic.{slice_cmp};
 ghost use Rattle.std.specs.Ordering.{nat_cmp};
-ghost use Rattle.gob_commit.specs.Groups.{ArePlaces, PlacesAre, picked};
+ghost use Rattle.gob_commit.specs.Groups.{ArePlaces, PlacesAre, picked_items};
 
 use gob_judge::dataset_of;
 use gob_plan::{List, NoMemory, Unit, UnitResult};
@@ -50,7 +50,7 @@ pub(crate) fn units_at(
     places: &[usize],
 ) -> Result<List<Unit>, NoMemory>
     requires { All (λ p. p < length units.now) places.now }
-    ensures { IfOk result (λ us. us ≡ picked units.now places.now) }
+    ensures { IfOk result (λ us. us ≡ picked_items units.now places.now) }
 {
     let mut group = List::new(alloc);
     for place in places {
@@ -67,7 +67,7 @@ pub(crate) fn results_at(
     places: &[usize],
 ) -> Result<List<UnitResult>, NoMemory>
     requires { All (λ p. p < length results.now) places.now }
-    ensures { IfOk result (λ rs. rs ≡ picked results.now places.now) }
+    ensures { IfOk result (λ rs. rs ≡ picked_items results.now places.now) }
 {
     let mut group = List::new(alloc);
     for place in places {

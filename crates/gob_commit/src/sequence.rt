@@ -5,7 +5,7 @@ ghost use Rattle.std.specs.List.Sorted.{IsPermutation};
 ghost use Rattle.gob_history.specs.Laws.{moves_of, removes_of, staged_state};
 ghost use Rattle.gob_recovery.specs.Sequence as recovery;
 ghost use Rattle.gob_segments.specs.Changes.{change_value};
-ghost use Rattle.gob_seq.specs.Steps.{step_of};
+ghost use Rattle.gob_seq.specs.Steps.{commit_step_of};
 ghost use Rattle.gob_commit.specs.Going.{ChangeNamed, DoesChange};
 ghost use Rattle.gob_commit.specs.Staged.{MovesAll, NamesFit, all_pairs, lent_pair, pairs_in};
 
@@ -45,7 +45,7 @@ pub(crate) fn sequence_of(
 }
 
 fn moves(alloc: Global, results: &[UnitResult]) -> Result<List<SeqStep>, NoMemory>
-    ensures { IfOk result (λ steps. MovesAll (all_pairs results.now) (map step_of steps)) }
+    ensures { IfOk result (λ steps. MovesAll (all_pairs results.now) (map commit_step_of steps)) }
 {
     let mut files = staged_files(alloc, results)?;
     files.sort()?;
@@ -80,7 +80,7 @@ fn push_files<'a>(files: &mut Vec<(&'a str, &'a str)>, made: &'a UnitResult) -> 
 }
 
 fn moves_in_order(alloc: Global, files: &[(&str, &str)]) -> Result<List<SeqStep>, NoMemory>
-    ensures { IfOk result (λ steps. map step_of steps ≡ moves_of (map lent_pair files.now)) }
+    ensures { IfOk result (λ steps. map commit_step_of steps ≡ moves_of (map lent_pair files.now)) }
 {
     let mut steps = List::new(alloc);
     for (to, from) in files {
@@ -98,7 +98,7 @@ fn push_state(
     job: &str,
     change: &StateChange,
 ) -> Result<(), NoMemory>
-    ensures { OnOk result (map step_of steps.new ≡ map step_of steps.old
+    ensures { OnOk result (map commit_step_of steps.new ≡ map commit_step_of steps.old
         ++ recovery.move (staged_state job.now) change.now.target ∷ removes_of change.now.removes) }
 {
     let from = staged_state_name(alloc, job)?;
@@ -110,7 +110,7 @@ fn push_state(
 }
 
 fn push_removes(steps: &mut List<SeqStep>, names: &[Text]) -> Result<(), NoMemory>
-    ensures { OnOk result (map step_of steps.new ≡ map step_of steps.old ++ removes_of names.now) }
+    ensures { OnOk result (map commit_step_of steps.new ≡ map commit_step_of steps.old ++ removes_of names.now) }
 {
     for name in names {
         let name = name.copy()?;

@@ -19,7 +19,7 @@ use Rattle.gob_cut.specs.declared.fault.CutFault.{CutFault}
 use Rattle.gob_cut.specs.declared.fault.CutFault.TheVariants as fault
 use Rattle.gob_cut.specs.declared.fault.Stop.{Stop}
 use Rattle.gob_cut.specs.declared.fault.Stop.TheVariants.{Failed, Memory}
-use Rattle.gob_cut.specs.Faults.{IsShrunk, ShrunkIsTold, fault_of}
+use Rattle.gob_cut.specs.Faults.{IsShrunk, ShrunkIsTold, cut_fault_of}
 use Rattle.gob_cut.specs.Rounds.{AreSized, all_cuts_of, all_rounds, cuts_from, owed_unit_of, owed_units_of}
 use Rattle.gob_cut.specs.Units.{kept_of}
 
@@ -205,12 +205,12 @@ told_shrunk (Some s) parts listing f lists is = subst (λ (t : Table ℕ). Shrun
     (shrunk_told parts listing f is)
 
 -- a fault that names no partition
-pub other_fault : (o : Option Supply) (parts : Table Marks) (f : CutFault) (s : Stop) → f ≡ fault_of s
+pub other_fault : (o : Option Supply) (parts : Table Marks) (f : CutFault) (s : Stop) → f ≡ cut_fault_of s
     → IfSome o (λ t. ShrunkIsTold parts (listing_of t.held) f)
 other_fault None parts f s is = tt
 other_fault (Some t) parts f s is = subst (ShrunkIsTold parts (listing_of t.held)) (sym is) (either s)
   where
-    either : (s : Stop) → ShrunkIsTold parts (listing_of t.held) (fault_of s)
+    either : (s : Stop) → ShrunkIsTold parts (listing_of t.held) (cut_fault_of s)
     either Failed = tt
     either Memory = tt
 

@@ -10,9 +10,9 @@ use Rattle.gob_cut.specs.declared.fault.Stop.{Stop}
 use Rattle.gob_cut.specs.declared.fault.Stop.TheVariants.{Failed, Memory}
 
 -- a stop, as the fault of the whole call
-abbrev pub fault_of : Stop → CutFault
-fault_of Failed = fault.Failed
-fault_of Memory = fault.Memory
+abbrev pub cut_fault_of : Stop → CutFault
+cut_fault_of Failed = fault.Failed
+cut_fault_of Memory = fault.Memory
 
 -- the first partition of the listing that is shorter than what was taken of it
 pub record NamesShrunk (parts : Table Marks) (listing : List (List ℕ × ℕ)) (part : List ℕ) (next size : ℕ) : Type 0

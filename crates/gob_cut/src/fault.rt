@@ -45,9 +45,9 @@ impl From<NoMemory> for Stop {
 }
 
 impl From<Stop> for CutFault {
-    ghost use Rattle.gob_cut.specs.Faults.{fault_of};
+    ghost use Rattle.gob_cut.specs.Faults.{cut_fault_of};
 
-    ghost from_gives = { λ s f. f ≡ fault_of s };
+    ghost from_gives = { λ s f. f ≡ cut_fault_of s };
 
     fn from(stop: Stop) -> Self {
         match stop {

@@ -3,18 +3,18 @@ use Rattle.std.proofs.Common.{◌≡◌, ℕ, suc, ◌≤◌, ◌<◌, ◌+◌, 
 use Rattle.std.proofs.Common.{ap, ◌∙◌, arith, take_all, append_assoc, Bool, true, false, ◌==◌}
 use Rattle.std.proofs.lemmas.List.{take-take, take_at, length-take, get_or_default, drop_more, drop_all}
 use Rattle.std.specs.List.{list_any}
-use Rattle.gob_formats.specs.Adding.{Keeps}
+use Rattle.gob_formats.specs.Adding.{KeepsFront}
 
-pub keeps_same : {A : Type 0} (xs : List A) → Keeps xs xs
+pub keeps_same : {A : Type 0} (xs : List A) → KeepsFront xs xs
 keeps_same xs = take_all (length xs) xs (omega arith)
 
-pub keeps_added : {A : Type 0} (xs ys : List A) → Keeps xs (xs ++ ys)
+pub keeps_added : {A : Type 0} (xs ys : List A) → KeepsFront xs (xs ++ ys)
 keeps_added xs ys = take_at xs ys (length xs) refl
 
-pub keeps_adds : {A : Type 0} (old new part : List A) → new ≡ old ++ part → Keeps old new
+pub keeps_adds : {A : Type 0} (old new part : List A) → new ≡ old ++ part → KeepsFront old new
 keeps_adds old new part is = ap (take (length old)) is ∙ keeps_added old part
 
-pub keeps_then : {A : Type 0} (a b c : List A) → Keeps a b → Keeps b c → Keeps a c
+pub keeps_then : {A : Type 0} (a b c : List A) → KeepsFront a b → KeepsFront b c → KeepsFront a c
 keeps_then a b c first second =
     let min_is = length-take (length a) b in
     let same = ap length first in

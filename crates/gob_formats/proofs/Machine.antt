@@ -10,11 +10,11 @@ use Rattle.csv.specs.declared.parser.State.TheVariants as st
 use Rattle.gob_convert.specs.Made.{made_each}
 use Rattle.gob_plan.specs.declared.rows.Column.{Column}
 use Rattle.gob_meaning.specs.Formats.{row_of, field_values, csv_line_rows}
-use Rattle.gob_formats.specs.Splits.{settled, step, records_on}
+use Rattle.gob_formats.specs.Splits.{settled_state, step, records_on}
 use Rattle.gob_formats.specs.Rows.{rows_on}
 
 -- after a carriage return it goes on as before a record
-step_settled : (s : State) (b : ℕ) → step (settled s) b ≡ step s b
+step_settled : (s : State) (b : ℕ) → step (settled_state s) b ≡ step s b
 step_settled st.StartRecord b = refl
 step_settled st.StartField b = refl
 step_settled st.InField b = refl
@@ -30,7 +30,7 @@ step_settled st.AfterCr b = elim (cases_Bool (b == 10)) [
   | inr isnt ↦ rw isnt refl
 ]
 
-ends_settled : (s : State) → csv.ends_at_end (settled s) ≡ csv.ends_at_end s
+ends_settled : (s : State) → csv.ends_at_end (settled_state s) ≡ csv.ends_at_end s
 ends_settled st.StartRecord = refl
 ends_settled st.StartField = refl
 ends_settled st.InField = refl
@@ -47,7 +47,7 @@ none_left (suc n) = refl
 
 at_end : (n : ℕ) (s : State) (fields : List (List ℕ)) (field : List ℕ)
     → records_next (records_from default_config n) (next_record default_config s fields field [])
-    ≡ records_on (settled s) fields field []
+    ≡ records_on (settled_state s) fields field []
 unfolding next_record records_on
 at_end n s fields field = rw (ends_settled s) (elim (cases_Bool (csv.ends_at_end s)) [
   | inl ends ↦ rw ends (ap (λ l. (fields ++ field ∷ []) ∷ l) (none_left n))
@@ -56,7 +56,7 @@ at_end n s fields field = rw (ends_settled s) (elim (cases_Bool (csv.ends_at_end
 
 pub records_read : (n : ℕ) (s : State) (fields : List (List ℕ)) (field xs : List ℕ) → length xs ≤ n
     → records_next (records_from default_config n) (next_record default_config s fields field xs)
-    ≡ records_on (settled s) fields field xs
+    ≡ records_on (settled_state s) fields field xs
 unfolding records_from next_record records_on
 records_read n s fields field [] enough = at_end n s fields field
 records_read zero s fields field (b ∷ rest) enough = absurd (omega arith)

@@ -12,7 +12,7 @@ use Rattle.gob_convert.specs.Made.{Made, concatenation, made_each}
 use Rattle.gob_plan.specs.declared.rows.Column.{Column}
 use Rattle.gob_plan.specs.declared.rows.Row.{Row}
 use Rattle.gob_meaning.specs.Formats.{row_of, field_values, csv_line_rows}
-use Rattle.gob_formats.specs.Splits.{is_mark, is_plain, comma_fields}
+use Rattle.gob_formats.specs.Splits.{is_mark, is_plain_line, comma_fields}
 use Rattle.gob_formats.proofs.Kept.{not_true}
 use Rattle.gob_formats.proofs.Machine.{none_left}
 
@@ -96,7 +96,7 @@ both_right true b e = e
 both_right false b e = cc e
 
 -- a plain line is one row
-pub plain_rows : (columns : List Column) (line : List ℕ) → is_plain line ≡ true
+pub plain_rows : (columns : List Column) (line : List ℕ) → is_plain_line line ≡ true
     → csv_line_rows columns line ≡ row_of (field_values columns (comma_fields [] line))
 plain_rows columns [] plain = cc plain
 plain_rows columns (b ∷ rest) plain =

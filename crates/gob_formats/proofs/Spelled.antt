@@ -20,29 +20,29 @@ use Rattle.gob_meaning.specs.Formats.{value_data, members_of, json_record}
 use Rattle.gob_formats.specs.Escapes.{is_escaped, needs_escape}
 use Rattle.gob_formats.specs.declared.json_write.Member.{Member}
 use Rattle.gob_formats.specs.declared.json_write.Place.{Place}
-use Rattle.gob_formats.specs.Members.{Named, named, put_name, names_from, key_text, keyed, value_at, members_at}
+use Rattle.gob_formats.specs.Members.{Named, named_place, put_name, names_from, key_text, keyed_members, column_value, members_at}
 use Rattle.gob_formats.specs.Members.{members_written}
 use Rattle.gob_formats.proofs.Kept.{not_true}
 
 -- ---- the members in order
 
 put_name_at : (o : Ordering) (k : List ℕ) (i : ℕ) (n : Named) (ns : List Named) (values : List Value)
-    → members_at (put_name k i ns) values ≡ json.put k (value_data (value_at i values)) (members_at ns values)
+    → members_at (put_name k i ns) values ≡ json.put k (value_data (column_value i values)) (members_at ns values)
     → members_at (match_ordering o (record { name = k; index = i } ∷ n ∷ ns) (record { name = n.name; index = i } ∷ ns)
     (n ∷ put_name k i ns)) values
     ≡ match_ordering o
-    (json.member k (value_data (value_at i values))
-    (json.member n.name (value_data (value_at n.index values)) (members_at ns values)))
-    (json.member n.name (value_data (value_at i values)) (members_at ns values))
-    (json.member n.name (value_data (value_at n.index values))
-    (json.put k (value_data (value_at i values)) (members_at ns values)))
+    (json.member k (value_data (column_value i values))
+    (json.member n.name (value_data (column_value n.index values)) (members_at ns values)))
+    (json.member n.name (value_data (column_value i values)) (members_at ns values))
+    (json.member n.name (value_data (column_value n.index values))
+    (json.put k (value_data (column_value i values)) (members_at ns values)))
 put_name_at Less k i n ns values later = refl
 put_name_at Equal k i n ns values later = refl
-put_name_at Greater k i n ns values later = ap (json.member n.name (value_data (value_at n.index values))) later
+put_name_at Greater k i n ns values later = ap (json.member n.name (value_data (column_value n.index values))) later
 
 -- a name goes to the place where its member goes
 put_name_put : (k : List ℕ) (i : ℕ) (ns : List Named) (values : List Value)
-    → members_at (put_name k i ns) values ≡ json.put k (value_data (value_at i values)) (members_at ns values)
+    → members_at (put_name k i ns) values ≡ json.put k (value_data (column_value i values)) (members_at ns values)
 put_name_put k i [] values = refl
 put_name_put k i (n ∷ ns) values =
     put_name_at (slice_cmp nat_cmp k n.name) k i n ns values (put_name_put k i ns values)
@@ -52,11 +52,11 @@ members_of_names : (first : ℕ) (columns : List Column) (values : List Value) �
 members_of_names first [] values as_many = refl
 members_of_names first (c ∷ cs) values as_many =
     let within : first < length values = omega arith in
-    let here : drop first values ≡ value_at first values ∷ drop (first + 1) values =
+    let here : drop first values ≡ column_value first values ∷ drop (first + 1) values =
     drop_more values first value.Null within in
     let fewer : first + 1 + length cs ≡ length values = omega arith in
     ap (members_of (c ∷ cs)) here
-    ∙ ap (json.put c.name (value_data (value_at first values))) (members_of_names (first + 1) cs values fewer)
+    ∙ ap (json.put c.name (value_data (column_value first values))) (members_of_names (first + 1) cs values fewer)
     ∙ sym (put_name_put c.name first (names_from (first + 1) cs) values)
 
 -- ---- their texts
@@ -65,15 +65,15 @@ regroup : (a q t m e : List ℕ) → (a ++ (q ++ 58 ∷ [])) ++ (t ++ (m ++ e)) 
 regroup a q t m e = simp append_assoc
 
 members_spelled : (later : Bool) (ns : List Named) (values : List Value)
-    → members_written (keyed later ns) values ≡ members_text later (members_at ns values) ++ 10 ∷ []
+    → members_written (keyed_members later ns) values ≡ members_text later (members_at ns values) ++ 10 ∷ []
 members_spelled later [] values = refl
 members_spelled later (n ∷ ns) values =
-    let text = compact_text (value_data (value_at n.index values)) in
+    let text = compact_text (value_data (column_value n.index values)) in
     ap (λ l. key_text later n.name ++ (text ++ l)) (members_spelled true ns values)
     ∙ regroup (comma_if later) (quoted n.name) text (members_text true (members_at ns values)) (10 ∷ [])
 
 pub record_spelled : (columns : List Column) (values : List Value) → length columns ≡ length values
-    → 123 ∷ members_written (keyed false (names_from 0 columns)) values ≡ json_record columns values
+    → 123 ∷ members_written (keyed_members false (names_from 0 columns)) values ≡ json_record columns values
 record_spelled columns values as_many =
     ap (λ l. 123 ∷ l) (members_spelled false (names_from 0 columns) values)
     ∙ ap (λ ms. (123 ∷ members_text false ms) ++ 10 ∷ []) (sym (members_of_names 0 columns values (omega arith)))
@@ -112,9 +112,9 @@ names_back i columns c some within is =
 
 pub members_split : (m : Member) (ms : List Member) (values : List Value)
     → members_written (m ∷ ms) values
-    ≡ (m.key ++ compact_text (value_data (value_at m.index values))) ++ members_written ms values
+    ≡ (m.key ++ compact_text (value_data (column_value m.index values))) ++ members_written ms values
 members_split m ms values =
-    sym (append_assoc m.key (compact_text (value_data (value_at m.index values))) (members_written ms values))
+    sym (append_assoc m.key (compact_text (value_data (column_value m.index values))) (members_written ms values))
 
 -- ---- a name among those that are there
 
@@ -141,19 +141,19 @@ put_greater k i n ns is = put_here Greater k i n ns is
 -- a name that is there gets the new column
 pub put_at_equal : (ps : List Place) (at : ℕ) (p p' : Place) (name : List ℕ) (index : ℕ) (whole : List Named)
     → at < length ps → p ≡ get_or ps at p → slice_cmp nat_cmp name p.name.now ≡ Equal
-    → named p' ≡ record { name = p.name.now; index = index }
-    → map named (take at ps) ++ put_name name index (map named (drop at ps)) ≡ whole
-    → map named (set ps at p') ≡ whole
+    → named_place p' ≡ record { name = p.name.now; index = index }
+    → map named_place (take at ps) ++ put_name name index (map named_place (drop at ps)) ≡ whole
+    → map named_place (set ps at p') ≡ whole
 put_at_equal ps at p p' name index whole within is same becomes so_far =
     let rest = drop (at + 1) ps in
     let here : drop at ps ≡ p ∷ rest = drop_more ps at p within ∙ ap (λ y. y ∷ rest) (sym is) in
     let next : suc at ≡ at + 1 = omega arith in
-    ap (map named) (set_split ps at p' within)
-    ∙ map-append named (take at ps) (p' ∷ drop (suc at) ps)
-    ∙ ap (λ n. map named (take at ps) ++ named p' ∷ map named (drop n ps)) next
-    ∙ ap (λ (q : Named). map named (take at ps) ++ q ∷ map named rest) becomes
-    ∙ ap (λ l. map named (take at ps) ++ l) (sym (put_equal name index (named p) (map named rest) same))
-    ∙ ap (λ ds. map named (take at ps) ++ put_name name index (map named ds)) (sym here)
+    ap (map named_place) (set_split ps at p' within)
+    ∙ map-append named_place (take at ps) (p' ∷ drop (suc at) ps)
+    ∙ ap (λ n. map named_place (take at ps) ++ named_place p' ∷ map named_place (drop n ps)) next
+    ∙ ap (λ (q : Named). map named_place (take at ps) ++ q ∷ map named_place rest) becomes
+    ∙ ap (λ l. map named_place (take at ps) ++ l) (sym (put_equal name index (named_place p) (map named_place rest) same))
+    ∙ ap (λ ds. map named_place (take at ps) ++ put_name name index (map named_place ds)) (sym here)
     ∙ so_far
 
 -- ---- texts without escapes

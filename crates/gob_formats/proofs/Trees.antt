@@ -19,7 +19,7 @@ use Rattle.gob_plan.specs.declared.rows.Value.{Value}
 use Rattle.gob_plan.specs.declared.rows.Value.TheVariants as value
 use Rattle.gob_plan.specs.declared.rows.Column.{Column}
 use Rattle.gob_meaning.specs.Formats.{row_of, value_before, member_value, member_or_null, member_values, json_line_rows}
-use Rattle.gob_formats.specs.Objects.{tree_of, finite, items_finite, members_finite, value_found, member_found}
+use Rattle.gob_formats.specs.Objects.{tree_of, finite, items_finite, members_finite, value_of_json, member_found}
 use Rattle.gob_formats.specs.Objects.{tree_values, object_values}
 
 -- ---- a tree is read where its numbers are finite
@@ -100,7 +100,7 @@ looks (json.member k j ms) old ds name reads =
 
 abbrev Fits : Kind → json.Json → Option Data → Type 0
 Fits k j None = Unit {0}
-Fits k j (Some d) = value_found k j ≡ member_value k d
+Fits k j (Some d) = value_of_json k j ≡ member_value k d
 
 fits_number : (k : Kind) (s : List ℕ) (o : Option serde.Num) → number_of s ≡ o
     → Fits k (json.number s) (option_map serde.number o)
@@ -134,7 +134,7 @@ fits kind.Text (json.string s) = refl
 fits k (json.array js) = fits_array k js (of_items js)
 fits k (json.object ms) = fits_object k ms (of_members ms serde.no_members)
 
-value_is : (k : Kind) (j : json.Json) (d : Data) → of_json j ≡ Some d → value_found k j ≡ member_value k d
+value_is : (k : Kind) (j : json.Json) (d : Data) → of_json j ≡ Some d → value_of_json k j ≡ member_value k d
 value_is k j d reads = subst (Fits k j) reads (fits k j)
 
 member_is : (k : Kind) (found : Option json.Json) (after : Option Data) → Looks found None after

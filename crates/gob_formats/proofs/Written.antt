@@ -9,7 +9,7 @@ use Rattle.gob_plan.specs.declared.rows.Value.{Value}
 use Rattle.gob_meaning.specs.Formats.{csv_record}
 use Rattle.gob_meaning.specs.Values.{value_text}
 use Rattle.gob_formats.proofs.Kept.{not_true}
-use Rattle.gob_formats.specs.Fields.{field_written, more_fields, body_of}
+use Rattle.gob_formats.specs.Fields.{field_written, more_fields, record_body}
 
 -- ---- one field
 
@@ -47,7 +47,7 @@ not_empty xs ys y = not_true (length (xs ++ y ∷ ys) == 0) (λ t.
     let sum = length-append xs (y ∷ ys) in
     omega arith)
 
-pub record_is : (values : List Value) → csv_record values ≡ record_text (body_of values)
+pub record_is : (values : List Value) → csv_record values ≡ record_text (record_body values)
 unfolding field_written more_fields fields_text is_blank
 record_is [] = refl
 record_is (v ∷ []) = rw (append-nil (field_text default_writer (value_text v))) refl
@@ -65,16 +65,16 @@ pub something_added : (old body : List ℕ) → (length (old ++ body) ≡ length
 something_added old [] differ = absurd (differ (ap length (append-nil old)))
 something_added old (b ∷ bs) differ = not_empty [] bs b
 
-pub blank_record : (old : List ℕ) (values : List Value) → (length (body_of values) == 0) ≡ true
-    → (old ++ body_of values) ++ 34 ∷ 34 ∷ 10 ∷ [] ≡ old ++ csv_record values
+pub blank_record : (old : List ℕ) (values : List Value) → (length (record_body values) == 0) ≡ true
+    → (old ++ record_body values) ++ 34 ∷ 34 ∷ 10 ∷ [] ≡ old ++ csv_record values
 blank_record old values blank =
-    append_assoc old (body_of values) (34 ∷ 34 ∷ 10 ∷ [])
+    append_assoc old (record_body values) (34 ∷ 34 ∷ 10 ∷ [])
     ∙ ap (λ t. old ++ t) (sym (record_is values
-    ∙ ap (λ b. body_of values ++ ((if b then 34 ∷ 34 ∷ [] else []) ++ 10 ∷ [])) blank))
+    ∙ ap (λ b. record_body values ++ ((if b then 34 ∷ 34 ∷ [] else []) ++ 10 ∷ [])) blank))
 
-pub some_record : (old : List ℕ) (values : List Value) → (length (body_of values) == 0) ≡ false
-    → (old ++ body_of values) ++ 10 ∷ [] ≡ old ++ csv_record values
+pub some_record : (old : List ℕ) (values : List Value) → (length (record_body values) == 0) ≡ false
+    → (old ++ record_body values) ++ 10 ∷ [] ≡ old ++ csv_record values
 some_record old values some =
-    append_assoc old (body_of values) (10 ∷ [])
+    append_assoc old (record_body values) (10 ∷ [])
     ∙ ap (λ t. old ++ t) (sym (record_is values
-    ∙ ap (λ b. body_of values ++ ((if b then 34 ∷ 34 ∷ [] else []) ++ 10 ∷ [])) some))
+    ∙ ap (λ b. record_body values ++ ((if b then 34 ∷ 34 ∷ [] else []) ++ 10 ∷ [])) some))

@@ -2,5 +2,5 @@
 use Rattle.std.specs.Prelude.{◌≡◌, List, length, take}
 
 -- what was there before is there still, in front
-abbrev pub Keeps : {A : Type 0} → List A → List A → Type 0
-Keeps old new = take (length old) new ≡ old
+abbrev pub KeepsFront : {A : Type 0} → List A → List A → Type 0
+KeepsFront old new = take (length old) new ≡ old

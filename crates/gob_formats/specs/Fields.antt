@@ -27,6 +27,6 @@ unfoldable pub more_fields : List Value → List ℕ
 more_fields values = fields_text default_writer (map value_text values)
 
 -- the fields of these values
-abbrev pub body_of : List Value → List ℕ
-body_of [] = []
-body_of (v ∷ values) = field_written (value_text v) ++ more_fields values
+abbrev pub record_body : List Value → List ℕ
+record_body [] = []
+record_body (v ∷ values) = field_written (value_text v) ++ more_fields values

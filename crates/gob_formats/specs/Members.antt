@@ -18,8 +18,8 @@ pub record Named : Type 0 where
   pub index : ℕ
 
 -- a place as it was found
-abbrev pub named : Place → Named
-named p = record { name = p.name.now; index = p.index }
+abbrev pub named_place : Place → Named
+named_place p = record { name = p.name.now; index = p.index }
 
 -- the columns in byte order of names, with one more; a name that is there gets the new column
 abbrev pub put_name : List ℕ → ℕ → List Named → List Named
@@ -38,21 +38,21 @@ abbrev pub key_text : Bool → List ℕ → List ℕ
 key_text later name = comma_if later ++ (quoted name ++ 58 ∷ [])
 
 -- the members with their texts
-abbrev pub keyed : Bool → List Named → List Member
-keyed later [] = []
-keyed later (n ∷ ns) = record { key = key_text later n.name; index = n.index } ∷ keyed true ns
+abbrev pub keyed_members : Bool → List Named → List Member
+keyed_members later [] = []
+keyed_members later (n ∷ ns) = record { key = key_text later n.name; index = n.index } ∷ keyed_members true ns
 
 -- the value of a column
-abbrev pub value_at : ℕ → List Value → Value
-value_at index values = slice_index_or values index value.Null
+abbrev pub column_value : ℕ → List Value → Value
+column_value index values = slice_index_or values index value.Null
 
 -- the members of an object of these values
 abbrev pub members_at : List Named → List Value → json.Members
 members_at [] values = json.no_members
-members_at (n ∷ ns) values = json.member n.name (value_data (value_at n.index values)) (members_at ns values)
+members_at (n ∷ ns) values = json.member n.name (value_data (column_value n.index values)) (members_at ns values)
 
 -- the texts of members and their values, and the end of the record
 abbrev pub members_written : List Member → List Value → List ℕ
 members_written [] values = 125 ∷ 10 ∷ []
 members_written (m ∷ ms) values =
-    m.key ++ (compact_text (value_data (value_at m.index values)) ++ members_written ms values)
+    m.key ++ (compact_text (value_data (column_value m.index values)) ++ members_written ms values)

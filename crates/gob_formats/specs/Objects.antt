@@ -49,13 +49,13 @@ kind_found kind.Int j = option_map value.Int (option_and_then integer_of (find.a
 kind_found kind.Text j = option_map value.Text (find.as_str j)
 
 -- null is Null
-abbrev pub value_found : Kind → json.Json → Option Value
-value_found k j = cond (find.is_null j) (Some value.Null) (kind_found k j)
+abbrev pub value_of_json : Kind → json.Json → Option Value
+value_of_json k j = cond (find.is_null j) (Some value.Null) (kind_found k j)
 
 -- and so is a member that isn't there
 abbrev pub member_found : Kind → Option json.Json → Option Value
 member_found k None = Some value.Null
-member_found k (Some j) = value_found k j
+member_found k (Some j) = value_of_json k j
 
 -- the values of the columns in a tree, where it is an object
 abbrev pub tree_values : List Column → json.Json → Option (List Value)

@@ -22,9 +22,9 @@ abbrev pub is_mark : ℕ → Bool
 is_mark b = (b == 34) || (b == 13) || (b == 10)
 
 -- a line without marks, that isn't empty and doesn't begin as a byte order mark does
-abbrev pub is_plain : List ℕ → Bool
-is_plain [] = false
-is_plain (b ∷ bs) = not (b == 239) && not (list_any is_mark (b ∷ bs))
+abbrev pub is_plain_line : List ℕ → Bool
+is_plain_line [] = false
+is_plain_line (b ∷ bs) = not (b == 239) && not (list_any is_mark (b ∷ bs))
 
 -- the fields of the text, where the first has begun
 unfoldable pub comma_fields : List ℕ → List ℕ → List (List ℕ)
@@ -40,19 +40,19 @@ fields_left (Some text) = comma_fields [] text.now
 -- ---- other lines
 
 -- after a carriage return a record begins as it does anywhere: a line feed there is passed over too
-abbrev pub settled : State → State
-settled st.AfterCr = st.StartRecord
-settled st.StartRecord = st.StartRecord
-settled st.StartField = st.StartField
-settled st.InField = st.InField
-settled st.InQuoted = st.InQuoted
-settled st.AfterQuote = st.AfterQuote
-settled st.InEscape = st.InEscape
-settled st.InComment = st.InComment
+abbrev pub settled_state : State → State
+settled_state st.AfterCr = st.StartRecord
+settled_state st.StartRecord = st.StartRecord
+settled_state st.StartField = st.StartField
+settled_state st.InField = st.InField
+settled_state st.InQuoted = st.InQuoted
+settled_state st.AfterQuote = st.AfterQuote
+settled_state st.InEscape = st.InEscape
+settled_state st.InComment = st.InComment
 
 -- a step of csv's machine
 abbrev pub step : State → ℕ → State × Action
-step s b = (settled (csv.step default_config s b).0, (csv.step default_config s b).1)
+step s b = (settled_state (csv.step default_config s b).0, (csv.step default_config s b).1)
 
 -- the records of a text from a state on, with the fields and the bytes of the field at hand
 unfoldable pub records_on : State → List (List ℕ) → List ℕ → List ℕ → List (List (List ℕ))
@@ -64,12 +64,12 @@ records_on s fields field (b ∷ rest) =
     (csv.field_after (step s b).1 b field) rest
 
 -- the state of the code
-abbrev pub state_of : Here → State
-state_of here.StartRecord = st.StartRecord
-state_of here.StartField = st.StartField
-state_of here.InField = st.InField
-state_of here.InQuoted = st.InQuoted
-state_of here.AfterQuote = st.AfterQuote
+abbrev pub code_state : Here → State
+code_state here.StartRecord = st.StartRecord
+code_state here.StartField = st.StartField
+code_state here.InField = st.InField
+code_state here.InQuoted = st.InQuoted
+code_state here.AfterQuote = st.AfterQuote
 
 abbrev pub action_of : Done → Action
 action_of done.Skip = act.Skip
@@ -77,5 +77,5 @@ action_of done.Copy = act.Copy
 action_of done.EndField = act.EndField
 action_of done.EndRecord = act.EndRecord
 
-abbrev pub step_of : Here × Done → State × Action
-step_of r = (state_of r.0, action_of r.1)
+abbrev pub split_step : Here × Done → State × Action
+split_step r = (code_state r.0, action_of r.1)

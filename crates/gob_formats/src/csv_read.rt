@@ -11,8 +11,8 @@ ghost use Rattle.csv.specs.declared.parser.State.{State as Place};
 ghost use Rattle.csv.specs.declared.parser.State.TheVariants as st;
 ghost use Rattle.gob_convert.specs.Made.{concatenation};
 ghost use Rattle.gob_meaning.specs.Formats.{row_of, field_values, csv_line_rows};
-ghost use Rattle.gob_formats.specs.Adding.{Keeps};
-ghost use Rattle.gob_formats.specs.Splits.{is_mark, is_plain, comma_fields, step, state_of, action_of, step_of};
+ghost use Rattle.gob_formats.specs.Adding.{KeepsFront};
+ghost use Rattle.gob_formats.specs.Splits.{is_mark, is_plain_line, comma_fields, step, code_state, action_of, split_step};
 ghost use Rattle.gob_formats.specs.Rows.{rows_on, rows_after};
 
 use crate::fields::read_field;
@@ -49,7 +49,7 @@ pub(crate) fn read_records(
     ensures ok { OnOk result
         (concatenation (Some rows.old.items) (csv_line_rows columns.now line.now) ≡ Some rows.new.items) }
     ensures bad { IfErr result (λ e. e ≡ ConvertFault.Bad → csv_line_rows columns.now line.now ≡ None) }
-    ensures keeps { Keeps rows.old.items rows.new.items }
+    ensures keeps { KeepsFront rows.old.items rows.new.items }
 {
     if is_plain(line) {
         let row = plain_row(alloc, columns, line)?;
@@ -62,7 +62,7 @@ pub(crate) fn read_records(
 
 // The whole line is looked through: a loop without an early exit goes many bytes at a time.
 fn is_plain(line: &[u8]) -> bool
-    ensures { result ≡ is_plain line.now }
+    ensures { result ≡ is_plain_line line.now }
 {
     match line {
         [] | [0xef, ..] => false,
@@ -151,7 +151,7 @@ fn read_marked(
         ≡ Some rows.new.items) }
     ensures bad { IfErr result
         (λ e. e ≡ ConvertFault.Bad → rows_on columns.now st.StartRecord [] [] text.now ≡ None) }
-    ensures keeps { Keeps rows.old.items rows.new.items }
+    ensures keeps { KeepsFront rows.old.items rows.new.items }
 {
     draft.fields.clear();
     draft.field.clear();
@@ -186,7 +186,7 @@ fn take(
     ensures bad { IfErr result (λ e. e ≡ ConvertFault.Bad → (s : Place) (rest : Items ℕ)
         → rows_after columns.now s (action_of action) (fields_of draft.old.fields) draft.old.field.items b rest
         ≡ None) }
-    ensures keeps { Keeps rows.old.items rows.new.items }
+    ensures keeps { KeepsFront rows.old.items rows.new.items }
     ensures none { OnOk result (partial_of draft.new.fields ≡ []) }
 {
     match action {
@@ -230,7 +230,7 @@ fn end_record(
         ≡ Some rows.new.items) }
     ensures bad { IfErr result (λ e. e ≡ ConvertFault.Bad
         → field_values columns.now (fields_of draft.old.fields ++ draft.old.field.items ∷ []) ≡ None) }
-    ensures keeps { Keeps rows.old.items rows.new.items }
+    ensures keeps { KeepsFront rows.old.items rows.new.items }
     ensures fields { OnOk result (fields_of draft.new.fields ≡ []) }
     ensures none { OnOk result (partial_of draft.new.fields ≡ []) }
     ensures field { OnOk result (draft.new.field.items ≡ []) }
@@ -282,7 +282,7 @@ enum Action {
 }
 
 fn step(state: State, b: u8) -> (State, Action)
-    ensures { step_of result ≡ step (state_of state) b }
+    ensures { split_step result ≡ step (code_state state) b }
 {
     match state {
         State::StartRecord => start_record(b),
@@ -294,7 +294,7 @@ fn step(state: State, b: u8) -> (State, Action)
 }
 
 fn start_record(b: u8) -> (State, Action)
-    ensures { step_of result ≡ step st.StartRecord b }
+    ensures { split_step result ≡ step st.StartRecord b }
 {
     if b == b'\r' || b == b'\n' {
         (State::StartRecord, Action::Skip)
@@ -304,7 +304,7 @@ fn start_record(b: u8) -> (State, Action)
 }
 
 fn start_field(b: u8) -> (State, Action)
-    ensures { step_of result ≡ step st.StartField b }
+    ensures { split_step result ≡ step st.StartField b }
 {
     if b == b'"' {
         (State::InQuoted, Action::Skip)
@@ -314,7 +314,7 @@ fn start_field(b: u8) -> (State, Action)
 }
 
 fn in_field(b: u8) -> (State, Action)
-    ensures { step_of result ≡ step st.InField b }
+    ensures { split_step result ≡ step st.InField b }
 {
     if b == b',' {
         (State::StartField, Action::EndField)
@@ -326,7 +326,7 @@ fn in_field(b: u8) -> (State, Action)
 }
 
 fn in_quoted(b: u8) -> (State, Action)
-    ensures { step_of result ≡ step st.InQuoted b }
+    ensures { split_step result ≡ step st.InQuoted b }
 {
     if b == b'"' {
         (State::AfterQuote, Action::Skip)
@@ -336,7 +336,7 @@ fn in_quoted(b: u8) -> (State, Action)
 }
 
 fn after_quote(b: u8) -> (State, Action)
-    ensures { step_of result ≡ step st.AfterQuote b }
+    ensures { split_step result ≡ step st.AfterQuote b }
 {
     if b == b'"' {
         (State::InQuoted, Action::Copy)
@@ -346,7 +346,7 @@ fn after_quote(b: u8) -> (State, Action)
 }
 
 fn ends_at_end(state: State) -> bool
-    ensures { result ≡ ends_at_end (state_of state) }
+    ensures { result ≡ ends_at_end (code_state state) }
 {
     !matches!(state, State::StartRecord)
 }

@@ -3,8 +3,8 @@ ghost use Rattle.std.specs.Prelude.{◌≡◌, ◌++◌, ◌∷◌, [], OnOk};
 ghost use Rattle.csv.specs.Writing.{default_writer, needs_quotes, needs_byte, escaped};
 ghost use Rattle.gob_meaning.specs.Formats.{csv_record};
 ghost use Rattle.gob_meaning.specs.Values.{value_text};
-ghost use Rattle.gob_formats.specs.Adding.{Keeps};
-ghost use Rattle.gob_formats.specs.Fields.{field_written, more_fields, body_of};
+ghost use Rattle.gob_formats.specs.Adding.{KeepsFront};
+ghost use Rattle.gob_formats.specs.Fields.{field_written, more_fields, record_body};
 
 use crate::adding::add;
 use gob_plan::Value;
@@ -14,7 +14,7 @@ use std::alloc::AllocError;
 /// Adds the values as one record, with its line feed. A record whose one field is empty is two quotes.
 pub(crate) fn write_record(values: &[Value], into: &mut Vec<u8>) -> Result<(), AllocError>
     ensures ok { OnOk result (into.new.items ≡ into.old.items ++ csv_record values.now) }
-    ensures keeps { Keeps into.old.items into.new.items }
+    ensures keeps { KeepsFront into.old.items into.new.items }
 {
     let before = into.len();
     write_body(values, into)?;
@@ -25,8 +25,8 @@ pub(crate) fn write_record(values: &[Value], into: &mut Vec<u8>) -> Result<(), A
 }
 
 fn write_body(values: &[Value], into: &mut Vec<u8>) -> Result<(), AllocError>
-    ensures ok { OnOk result (into.new.items ≡ into.old.items ++ body_of values.now) }
-    ensures keeps { Keeps into.old.items into.new.items }
+    ensures ok { OnOk result (into.new.items ≡ into.old.items ++ record_body values.now) }
+    ensures keeps { KeepsFront into.old.items into.new.items }
 {
     match values {
         [] => Ok(()),
@@ -40,7 +40,7 @@ fn write_body(values: &[Value], into: &mut Vec<u8>) -> Result<(), AllocError>
 
 fn write_more(values: &[Value], into: &mut Vec<u8>) -> Result<(), AllocError>
     ensures ok { OnOk result (into.new.items ≡ into.old.items ++ more_fields values.now) }
-    ensures keeps { Keeps into.old.items into.new.items }
+    ensures keeps { KeepsFront into.old.items into.new.items }
 {
     for value in values {
         into.push(b',')?;
@@ -51,7 +51,7 @@ fn write_more(values: &[Value], into: &mut Vec<u8>) -> Result<(), AllocError>
 
 fn write_field(value: &Value, into: &mut Vec<u8>) -> Result<(), AllocError>
     ensures ok { OnOk result (into.new.items ≡ into.old.items ++ field_written (value_text value.now)) }
-    ensures keeps { Keeps into.old.items into.new.items }
+    ensures keeps { KeepsFront into.old.items into.new.items }
 {
     match value {
         Value::Null => Ok(()),
@@ -64,7 +64,7 @@ fn write_field(value: &Value, into: &mut Vec<u8>) -> Result<(), AllocError>
 
 fn write_text(field: &[u8], into: &mut Vec<u8>) -> Result<(), AllocError>
     ensures ok { OnOk result (into.new.items ≡ into.old.items ++ field_written field.now) }
-    ensures keeps { Keeps into.old.items into.new.items }
+    ensures keeps { KeepsFront into.old.items into.new.items }
 {
     if !needs_quotes(field) {
         return add(field, into);
@@ -96,7 +96,7 @@ fn is_mark(b: u8) -> bool
 // A quote is written twice.
 fn write_escaped(field: &[u8], into: &mut Vec<u8>) -> Result<(), AllocError>
     ensures ok { OnOk result (into.new.items ≡ into.old.items ++ escaped default_writer field.now) }
-    ensures keeps { Keeps into.old.items into.new.items }
+    ensures keeps { KeepsFront into.old.items into.new.items }
 {
     for b in field {
         write_byte(*b, into)?;
@@ -107,7 +107,7 @@ fn write_escaped(field: &[u8], into: &mut Vec<u8>) -> Result<(), AllocError>
 #[tactic(auto, unfolding(csv::specs::Writing::escaped))]
 fn write_byte(b: u8, into: &mut Vec<u8>) -> Result<(), AllocError>
     ensures ok { OnOk result (into.new.items ≡ into.old.items ++ escaped default_writer (b ∷ [])) }
-    ensures keeps { Keeps into.old.items into.new.items }
+    ensures keeps { KeepsFront into.old.items into.new.items }
 {
     if b == b'"' {
         return add(b"\"\"", into);

@@ -4,7 +4,7 @@ ghost use Rattle.gob_convert.specs.Made.{concatenation};
 ghost use Rattle.gob_plan.specs.Rows.{conforms};
 ghost use Rattle.gob_meaning.specs.Formats.{line_rows};
 ghost use Rattle.gob_meaning.specs.Plans.{writes_columns};
-ghost use Rattle.gob_formats.specs.Adding.{Keeps};
+ghost use Rattle.gob_formats.specs.Adding.{KeepsFront};
 ghost use Rattle.gob_formats.specs.Keeping.{rows_conform};
 
 use crate::csv_read::{Draft, read_records};
@@ -91,7 +91,7 @@ impl LineDecoder {
             ≡ Some rows.new.items) }
         ensures bad { IfErr result
             (λ e. e ≡ ConvertFault.Bad → line_rows self.now.format self.now.columns line.now ≡ None) }
-        ensures keeps { Keeps rows.old.items rows.new.items }
+        ensures keeps { KeepsFront rows.old.items rows.new.items }
     {
         let columns = self.columns.as_slice();
         match self.format {

@@ -6,9 +6,9 @@ ghost use Rattle.gob_plan.specs.Rows.{conforms};
 ghost use Rattle.gob_plan.specs.declared.steps.Refusal.{Refusal};
 ghost use Rattle.gob_meaning.specs.Formats.{record_of};
 ghost use Rattle.gob_meaning.specs.Plans.{write_refusal, lines_refusal};
-ghost use Rattle.gob_formats.specs.Adding.{Keeps};
+ghost use Rattle.gob_formats.specs.Adding.{KeepsFront};
 ghost use Rattle.gob_formats.specs.Keeping.{record_ends};
-ghost use Rattle.gob_formats.specs.Members.{names_from, keyed};
+ghost use Rattle.gob_formats.specs.Members.{names_from, keyed_members};
 
 use crate::csv_write::write_record;
 use crate::json_write::{Member, members_for, write_object};
@@ -23,7 +23,7 @@ pub struct RowEncoder {
     format: Format,
     columns: Columns,
     members: List<Member>,
-    ghost spelled: { members ≡ keyed false (names_from 0 columns) },
+    ghost spelled: { members ≡ keyed_members false (names_from 0 columns) },
 }
 
 impl RowEncoder {
@@ -75,7 +75,7 @@ impl RowEncoder {
             ≡ Some into.new.items) }
         ensures bad { IfErr result
             (λ e. e ≡ ConvertFault.Bad → record_of self.now.format self.now.columns row.now ≡ None) }
-        ensures keeps { Keeps into.old.items into.new.items }
+        ensures keeps { KeepsFront into.old.items into.new.items }
     {
         let values = row.values.as_slice();
         let members = self.members.as_slice();

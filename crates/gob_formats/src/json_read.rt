@@ -8,8 +8,8 @@ ghost use Rattle.serde_json.specs.Find.{as_i64};
 ghost use Rattle.gob_convert.specs.Made.{concatenation};
 ghost use Rattle.gob_plan.specs.declared.rows.Value.TheVariants as value_kind;
 ghost use Rattle.gob_meaning.specs.Formats.{json_line_rows};
-ghost use Rattle.gob_formats.specs.Adding.{Keeps};
-ghost use Rattle.gob_formats.specs.Objects.{tree_of, finite, items_finite, members_finite, integer_of, value_found};
+ghost use Rattle.gob_formats.specs.Adding.{KeepsFront};
+ghost use Rattle.gob_formats.specs.Objects.{tree_of, finite, items_finite, members_finite, integer_of, value_of_json};
 ghost use Rattle.gob_formats.specs.Objects.{member_found, tree_values, object_values};
 
 use fast_float::Numeral;
@@ -33,7 +33,7 @@ pub(crate) fn read_object(
     ensures ok { OnOk result
         (concatenation (Some rows.old.items) (json_line_rows columns.now line.now) ≡ Some rows.new.items) }
     ensures bad { IfErr result (λ e. e ≡ ConvertFault.Bad → json_line_rows columns.now line.now ≡ None) }
-    ensures keeps { Keeps rows.old.items rows.new.items }
+    ensures keeps { KeepsFront rows.old.items rows.new.items }
 {
     if line.is_empty() {
         return Ok(());
@@ -134,9 +134,9 @@ fn member_value(alloc: Global, kind: Kind, found: Option<&Json<'_>>) -> Result<V
 }
 
 fn read_value(alloc: Global, kind: Kind, value: &Json<'_>) -> Result<Value, ConvertFault>
-    ensures ok { IfOk result (λ v. value_found kind (value_view value.now) ≡ Some v) }
+    ensures ok { IfOk result (λ v. value_of_json kind (value_view value.now) ≡ Some v) }
     ensures bad { IfErr result
-        (λ e. e ≡ ConvertFault.Bad → value_found kind (value_view value.now) ≡ None) }
+        (λ e. e ≡ ConvertFault.Bad → value_of_json kind (value_view value.now) ≡ None) }
 {
     if value.is_null() {
         return Ok(Value::Null);

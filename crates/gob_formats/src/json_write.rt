@@ -4,9 +4,9 @@ ghost use Rattle.std.specs.Char.{digit_char};
 ghost use Rattle.json.specs.Print.{escape_letter, escape_byte, escape, quoted};
 ghost use Rattle.serde_json.specs.Written.{compact_text};
 ghost use Rattle.gob_meaning.specs.Formats.{value_data};
-ghost use Rattle.gob_formats.specs.Adding.{Keeps};
+ghost use Rattle.gob_formats.specs.Adding.{KeepsFront};
 ghost use Rattle.gob_formats.specs.Escapes.{is_escaped, needs_escape};
-ghost use Rattle.gob_formats.specs.Members.{named, put_name, names_from, key_text, keyed, value_at, members_written};
+ghost use Rattle.gob_formats.specs.Members.{named_place, put_name, names_from, key_text, keyed_members, column_value, members_written};
 
 use crate::adding::{add, write_int};
 use gob_plan::{Bytes, Column, List, NoMemory, Value};
@@ -29,7 +29,7 @@ struct Place<'a> {
 
 /// The members of records of these columns, in byte order of names.
 pub(crate) fn members_for(alloc: Global, columns: &[Column]) -> Result<List<Member>, NoMemory>
-    ensures { IfOk result (λ ms. ms ≡ keyed false (names_from 0 columns.now)) }
+    ensures { IfOk result (λ ms. ms ≡ keyed_members false (names_from 0 columns.now)) }
 {
     let places = places_for(alloc, columns)?;
     let mut members = Vec::with_capacity(alloc, places.len())?;
@@ -42,7 +42,7 @@ pub(crate) fn members_for(alloc: Global, columns: &[Column]) -> Result<List<Memb
 }
 
 fn places_for<'a>(alloc: Global, columns: &'a [Column]) -> Result<Vec<Place<'a>>, AllocError>
-    ensures { IfOk result (λ ps. map named ps.items ≡ names_from 0 columns.now) }
+    ensures { IfOk result (λ ps. map named_place ps.items ≡ names_from 0 columns.now) }
 {
     let mut places = Vec::with_capacity(alloc, columns.len())?;
     for index in (0..columns.len()).rev() {
@@ -54,8 +54,8 @@ fn places_for<'a>(alloc: Global, columns: &'a [Column]) -> Result<Vec<Place<'a>>
 
 // Each name goes to its place among those that are there.
 fn put<'a>(places: &mut Vec<Place<'a>>, new: Place<'a>) -> Result<(), AllocError>
-    ensures { OnOk result (map named places.new.items
-        ≡ put_name new.entry.name.now new.entry.index (map named places.old.items)) }
+    ensures { OnOk result (map named_place places.new.items
+        ≡ put_name new.entry.name.now new.entry.index (map named_place places.old.items)) }
 {
     for at in 0..places.len() {
         match new.name.cmp(places[at].name) {
@@ -98,7 +98,7 @@ pub(crate) fn write_object(
 ) -> Result<(), AllocError>
     ensures ok { OnOk result
         (into.new.items ≡ into.old.items ++ 123 ∷ members_written members.now values.now) }
-    ensures keeps { Keeps into.old.items into.new.items }
+    ensures keeps { KeepsFront into.old.items into.new.items }
 {
     into.push(b'{')?;
     for member in members {
@@ -110,8 +110,8 @@ pub(crate) fn write_object(
 
 fn write_member(values: &[Value], index: usize, into: &mut Vec<u8>) -> Result<(), AllocError>
     ensures ok { OnOk result (into.new.items
-        ≡ into.old.items ++ compact_text (value_data (value_at index values.now))) }
-    ensures keeps { Keeps into.old.items into.new.items }
+        ≡ into.old.items ++ compact_text (value_data (column_value index values.now))) }
+    ensures keeps { KeepsFront into.old.items into.new.items }
 {
     match values.get(index) {
         Some(value) => write_value(value, into),
@@ -121,7 +121,7 @@ fn write_member(values: &[Value], index: usize, into: &mut Vec<u8>) -> Result<()
 
 fn write_value(value: &Value, into: &mut Vec<u8>) -> Result<(), AllocError>
     ensures ok { OnOk result (into.new.items ≡ into.old.items ++ compact_text (value_data value.now)) }
-    ensures keeps { Keeps into.old.items into.new.items }
+    ensures keeps { KeepsFront into.old.items into.new.items }
 {
     match value {
         Value::Null => add(b"null", into),
@@ -134,7 +134,7 @@ fn write_value(value: &Value, into: &mut Vec<u8>) -> Result<(), AllocError>
 
 fn write_string(text: &[u8], into: &mut Vec<u8>) -> Result<(), AllocError>
     ensures ok { OnOk result (into.new.items ≡ into.old.items ++ quoted text.now) }
-    ensures keeps { Keeps into.old.items into.new.items }
+    ensures keeps { KeepsFront into.old.items into.new.items }
 {
     into.push(b'"')?;
     write_content(text, into)?;
@@ -145,7 +145,7 @@ fn write_string(text: &[u8], into: &mut Vec<u8>) -> Result<(), AllocError>
 // What stands between the quotes.
 fn write_content(text: &[u8], into: &mut Vec<u8>) -> Result<(), AllocError>
     ensures ok { OnOk result (into.new.items ≡ into.old.items ++ escape text.now) }
-    ensures keeps { Keeps into.old.items into.new.items }
+    ensures keeps { KeepsFront into.old.items into.new.items }
 {
     if !needs_escape(text) {
         return add(text, into);
@@ -173,7 +173,7 @@ fn is_escaped(b: u8) -> bool
 
 fn write_escaped(text: &[u8], into: &mut Vec<u8>) -> Result<(), AllocError>
     ensures ok { OnOk result (into.new.items ≡ into.old.items ++ escape text.now) }
-    ensures keeps { Keeps into.old.items into.new.items }
+    ensures keeps { KeepsFront into.old.items into.new.items }
 {
     for b in text {
         write_byte(*b, into)?;
@@ -184,7 +184,7 @@ fn write_escaped(text: &[u8], into: &mut Vec<u8>) -> Result<(), AllocError>
 #[tactic(auto, unfolding(json::specs::Print::escape_byte))]
 fn write_byte(b: u8, into: &mut Vec<u8>) -> Result<(), AllocError>
     ensures ok { OnOk result (into.new.items ≡ into.old.items ++ escape_byte b) }
-    ensures keeps { Keeps into.old.items into.new.items }
+    ensures keeps { KeepsFront into.old.items into.new.items }
 {
     let letter = escape_letter(b);
     if letter > 0 {

@@ -10,8 +10,8 @@ use Rattle.std.proofs.lemmas.Bool.{and_parts, eqb-true, ltb-true}
 use Rattle.std.proofs.lemmas.Bool.Decides.{nat_tests}
 use Rattle.std.proofs.lemmas.List.Elements.{All-nil, All-cons}
 use Rattle.std.proofs.lemmas.Str.{IsUtf8-from_is_utf8}
-use Rattle.gob_bytes.specs.Digits.{offset, padded}
-use Rattle.gob_bytes.specs.Escapes.{escaped}
+use Rattle.gob_bytes.specs.Digits.{offset, padded_digits}
+use Rattle.gob_bytes.specs.Escapes.{escape_of}
 use Rattle.gob_bytes.specs.Lines.{lines_from}
 use Rattle.gob_bytes.specs.Paths.{is_published, keeps_state, delta_folder, begins_with, staging, under}
 use Rattle.gob_bytes.specs.Tables.{at_name}
@@ -35,13 +35,13 @@ use Rattle.gob_ledger.specs.Archive.{LiesOnLines, LiesIn}
 use Rattle.gob_ledger.specs.Totals.{counted_in, counts_where, SameCounts}
 use Rattle.gob_ledger.specs.Units.{span_of, units_of_parts}
 use Rattle.gob_ledger.specs.Next.{Judged, next_state}
-use Rattle.gob_ledger.specs.Expected.{IsMade, IsExpected, IsPublished, bytes_in}
+use Rattle.gob_ledger.specs.Expected.{IsMade, IsExpected, IsPublished, bytes_of_range}
 use Rattle.gob_ledger.specs.Spelling.{version_2, state_spelling, Proper, ProperPart, SmallBranch, IsKeptPipeline}
 use Rattle.gob_jobs.specs.Pipelines.{IsSetting, is_key}
 use Rattle.gob_ledger.specs.Delta.{base_alone}
 use Rattle.gob_ledger.specs.Groups.{groups_of}
 use Rattle.gob_ledger.specs.Turns.{own_pulls, turns_of, verdicts_of}
-use Rattle.gob_ledger.specs.Examples.{plain_state, two_lines, job, done, fresh, lines_written}
+use Rattle.gob_ledger.specs.Examples.{plain_state, two_lines, job, range_done, fresh, lines_written}
 use Rattle.gob_recovery.specs.Settle.{without_staging}
 use Rattle.gob_history.specs.Sound.{Stores, Sound, AllRecoverTo}
 use Rattle.gob_history.specs.Runs.{done_units, state_after, states_of_run, RunLeft, TrailOfRun}
@@ -55,7 +55,7 @@ use Rattle.gob_history.proofs.Stands.{standing, kept_all, settles_itself}
 use Rattle.gob_jobs.specs.Plans.{plan_of, TellsPlan}
 
 abbrev the_marks : Marks
-the_marks = record { next = 4; finished = done 0 4 ∷ []; owed = [] }
+the_marks = record { next = 4; finished = range_done 0 4 ∷ []; owed = [] }
 
 abbrev the_file : List ℕ
 the_file = codes "j1/out/0/a.log@00000000000000000000-00000000000000000004.txt"
@@ -81,7 +81,7 @@ tiled_state = record {
   indexed = λ part m d e h. indexed d (subst (λ (n : Marks). Contains n.finished d) (sym (the_part part m e).1) h);
 }
   where
-    indexed : (d : Done) → Contains (done 0 4 ∷ []) d → d.pipeline < 1
+    indexed : (d : Done) → Contains (range_done 0 4 ∷ []) d → d.pipeline < 1
     indexed d (zero, below, is) = subst (λ (x : Done). x.pipeline < 1) is (lit< tt)
     indexed d (suc k, below, is) = absurd (omega (arith, below))
 
@@ -108,7 +108,7 @@ settings_fit (s ∷ ss) e =
     All-cons (λ t. IsSetting t.0 t.1) s ss (record { keyed = q.0; bytes = bytes_small s.1 q.1 }) (settings_fit ss p.1)
 
 proper : Proper plain_state
-unfolding IsDistinct settings escaped is_utf8 chars lib.Utf8.encode
+unfolding IsDistinct settings escape_of is_utf8 chars lib.Utf8.encode
 proper = record {
   run = lit< tt;
   pipelines = All-cons IsKeptPipeline plain_pipeline [] (settings, settings_fit settings refl, refl, lit< tt)
@@ -151,20 +151,20 @@ only_made (out b p) content e some = cases (nat_eq b 0 && bytes_eq p []) refl e
 only_made (err b p) content e some = absurd (some (sym e))
 only_made bad content e some = absurd (some (sym e))
 
-bytes_are : (archive : Held) → HasTwoLines archive → bytes_in archive (codes "a.log") (record { lo = 0; hi = 4 }) ≡
+bytes_are : (archive : Held) → HasTwoLines archive → bytes_of_range archive (codes "a.log") (record { lo = 0; hi = 4 }) ≡
     codes "x\ny\n"
 unfolding bytes_from
 bytes_are archive at = ap (λ o. take 4 (drop 0 (unwrap_or o []))) at
 
 made_file : IsMade plain_plan (codes "a.log") (record { lo = 0; hi = 4 }) (codes "x\ny\n")
     (codes "out/0/a.log@00000000000000000000-00000000000000000004.txt") (codes "x\ny\n")
-unfolding digits padded offset escaped target_name sent_to unit_fold lines_from line_rows record_of made_in_branch
+unfolding digits padded_digits offset escape_of target_name sent_to unit_fold lines_from line_rows record_of made_in_branch
     line_made ruling picks place_of is_utf8 chars lib.Utf8.encode
 made_file = record { target = out 0 []; sends = refl; some = λ e. cc; called = refl }
 
 named_file : (target : Target) (path : List ℕ) → target ≡ out 0 []
     → target_name plain_plan (codes "a.log") 0 4 target ≡ path → under (codes "j1") path ≡ the_file
-unfolding digits padded offset escaped target_name
+unfolding digits padded_digits offset escape_of target_name
 named_file target path is called = ap (under (codes "j1")) (sym called
     ∙ ap (target_name plain_plan (codes "a.log") 0 4) is)
 
@@ -181,22 +181,22 @@ expected_is archive name content at e =
     ap (λ (d : Done). slice_get (plain_pipeline ∷ []) d.pipeline) range ∙ e.of_state in cc in
     let plan : e.plan ≡ without_rules plain_plan = let h : Some e.plan ≡ Some (without_rules plain_plan) =
     sym e.of_pipeline ∙ (ap plan_of (sym pipe) ∙ plain_has) in cc in
-    let one : IsMade e.plan (codes "a.log") e.done.span (bytes_in archive (codes "a.log") e.done.span) e.path content =
-    subst (λ q. IsMade e.plan q e.done.span (bytes_in archive q e.done.span) e.path content) part.0 e.made in
+    let one : IsMade e.plan (codes "a.log") e.done.span (bytes_of_range archive (codes "a.log") e.done.span) e.path content =
+    subst (λ q. IsMade e.plan q e.done.span (bytes_of_range archive q e.done.span) e.path content) part.0 e.made in
     let two : IsMade e.plan (codes "a.log") (record { lo = 0; hi = 4 })
-    (bytes_in archive (codes "a.log") (record { lo = 0; hi = 4 })) e.path content =
-    subst (λ (d : Done). IsMade e.plan (codes "a.log") d.span (bytes_in archive (codes "a.log") d.span) e.path content)
+    (bytes_of_range archive (codes "a.log") (record { lo = 0; hi = 4 })) e.path content =
+    subst (λ (d : Done). IsMade e.plan (codes "a.log") d.span (bytes_of_range archive (codes "a.log") d.span) e.path content)
     (sym range) one in
     let made : IsMade plain_plan (codes "a.log") (record { lo = 0; hi = 4 }) (codes "x\ny\n") e.path content =
     subst (λ b. IsMade plain_plan (codes "a.log") (record { lo = 0; hi = 4 }) b e.path content) (bytes_are archive at)
     (made_without plain_plan (codes "a.log") (record { lo = 0; hi = 4 })
-    (bytes_in archive (codes "a.log") (record { lo = 0; hi = 4 })) e.path content
+    (bytes_of_range archive (codes "a.log") (record { lo = 0; hi = 4 })) e.path content
     (subst (λ p. IsMade p (codes "a.log") (record { lo = 0; hi = 4 })
-    (bytes_in archive (codes "a.log") (record { lo = 0; hi = 4 })) e.path content) plan two)) in
+    (bytes_of_range archive (codes "a.log") (record { lo = 0; hi = 4 })) e.path content) plan two)) in
     let is = only_made made.target content made.sends made.some in
     (e.called ∙ named_file made.target e.path is.0 made.called, is.1)
   where
-    one_done : (d : Done) → Contains (done 0 4 ∷ []) d → done 0 4 ≡ d
+    one_done : (d : Done) → Contains (range_done 0 4 ∷ []) d → range_done 0 4 ≡ d
     one_done d (zero, below, is) = is
     one_done d (suc k, below, is) = absurd (omega (arith, below))
 
@@ -206,7 +206,7 @@ expects_file archive at = record {
   part = codes "a.log";
   marks = the_marks;
   of_part = refl;
-  done = done 0 4;
+  range_done = range_done 0 4;
   of_marks = (0, lit< tt, refl);
   pipeline = plain_pipeline;
   of_state = refl;
@@ -214,7 +214,7 @@ expects_file archive at = record {
   of_pipeline = plain_has;
   path = codes "out/0/a.log@00000000000000000000-00000000000000000004.txt";
   made = made_with plain_plan (codes "a.log") (record { lo = 0; hi = 4 })
-      (bytes_in archive (codes "a.log") (record { lo = 0; hi = 4 }))
+      (bytes_of_range archive (codes "a.log") (record { lo = 0; hi = 4 }))
       (codes "out/0/a.log@00000000000000000000-00000000000000000004.txt") (codes "x\ny\n")
       (subst (λ b. IsMade plain_plan (codes "a.log") (record { lo = 0; hi = 4 }) b
       (codes "out/0/a.log@00000000000000000000-00000000000000000004.txt") (codes "x\ny\n"))
@@ -371,13 +371,13 @@ run archive at = standing (codes "j1") archive (Some plain_state) after_plain af
     (settles_itself (codes "j1") after_plain refl unstaged)
 
 pub state_left : state_after job two_lines [] None ≡ Some plain_state
-unfolding groups_of digits escaped is_utf8 chars lib.Utf8.encode lines_from bytes_from test_holds unit_fold counts_of
+unfolding groups_of digits escape_of is_utf8 chars lib.Utf8.encode lines_from bytes_from test_holds unit_fold counts_of
     stop_of picks place_of line_rows record_of made_in_branch line_made ruling warnings_of verdict_of sum_of
     units_of_parts next_state own_pulls turns_of verdicts_of
 state_left = refl
 
 states_are : states_of_run job two_lines [] None ≡ None ∷ Some plain_state ∷ []
-unfolding groups_of digits escaped is_utf8 chars lib.Utf8.encode lines_from bytes_from test_holds unit_fold counts_of
+unfolding groups_of digits escape_of is_utf8 chars lib.Utf8.encode lines_from bytes_from test_holds unit_fold counts_of
     stop_of picks place_of line_rows record_of made_in_branch line_made ruling warnings_of verdict_of sum_of
     units_of_parts next_state own_pulls turns_of verdicts_of
 states_are = refl
@@ -386,7 +386,7 @@ the_unit : Judged
 the_unit = (fresh (codes "a.log") 0 4, good (lines_written 2) [])
 
 units_done : done_units job two_lines [] None ≡ the_unit ∷ []
-unfolding groups_of the_unit digits escaped is_utf8 chars lib.Utf8.encode lines_from bytes_from test_holds unit_fold
+unfolding groups_of the_unit digits escape_of is_utf8 chars lib.Utf8.encode lines_from bytes_from test_holds unit_fold
     counts_of stop_of picks place_of line_rows record_of made_in_branch line_made ruling warnings_of verdict_of sum_of
     units_of_parts own_pulls turns_of verdicts_of
 units_done = refl
@@ -413,8 +413,8 @@ unfolding the_unit
 published_once name content u =
     let one : the_unit ≡ u.unit = only (subst (λ js. Contains js u.unit) units_done u.of_units) in
     let made : IsMade plain_plan (codes "a.log") (record { lo = 0; hi = 4 })
-    (bytes_in two_lines (codes "a.log") (record { lo = 0; hi = 4 })) u.path content =
-    subst (λ (j : Judged). IsMade plain_plan j.0.part (span_of j.0) (bytes_in two_lines j.0.part (span_of j.0)) u.path
+    (bytes_of_range two_lines (codes "a.log") (record { lo = 0; hi = 4 })) u.path content =
+    subst (λ (j : Judged). IsMade plain_plan j.0.part (span_of j.0) (bytes_of_range two_lines j.0.part (span_of j.0)) u.path
     content) (sym one) u.made in
     let read : IsMade plain_plan (codes "a.log") (record { lo = 0; hi = 4 }) (codes "x\ny\n") u.path content =
     subst (λ b. IsMade plain_plan (codes "a.log") (record { lo = 0; hi = 4 }) b u.path content)

@@ -4,7 +4,7 @@ use Rattle.std.proofs.Common.{Some, None, codes, option_map}
 use Rattle.std.specs.declared.option.Option.{Option}
 use Rattle.std.specs.Str.{bytes_eq}
 use Rattle.gob_bytes.specs.Paths.{begins_with, state_name, delta_folder, delta_name, keeps_state}
-use Rattle.gob_bytes.specs.Words.{numbered}
+use Rattle.gob_bytes.specs.Words.{numbered_line}
 use Rattle.gob_bytes.proofs.Tables.{name_itself, same_name}
 use Rattle.gob_device.specs.Disk.{Files, contents_at}
 use Rattle.gob_ledger.specs.State.{State}
@@ -49,7 +49,7 @@ EndsLine c = (front : List ℕ) × (c ≡ front ++ 10 ∷ [])
 
 file_ends : (kind : List ℕ) (v : Version) (run : ℕ) (inner : List ℕ) → EndsLine (file_text kind v run inner)
 file_ends kind v run inner = (
-  numbered kind (version_number v ∷ []) ++ numbered (codes "run") (run ∷ []) ++ inner
+  numbered_line kind (version_number v ∷ []) ++ numbered_line (codes "run") (run ∷ []) ++ inner
       ++ codes "end",
   refl,
 )

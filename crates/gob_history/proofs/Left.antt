@@ -20,12 +20,12 @@ use Rattle.gob_meaning.specs.Results.{Verdict}
 use Rattle.gob_meaning.proofs.Apart.{names_apart}
 use Rattle.gob_meaning.proofs.Placed.{sent_is_placed}
 use Rattle.gob_ledger.specs.Marks.{Marks, Span, Done, done_spans}
-use Rattle.gob_ledger.specs.State.{State, marks_at, no_branch, TiledState}
+use Rattle.gob_ledger.specs.State.{State, marks_at, no_branch_counts, TiledState}
 use Rattle.gob_ledger.specs.Units.{span_of, next_of, fresh_in, UnitsFit}
 use Rattle.gob_ledger.specs.Next.{Judged, add_unit, fold_units, with_pipeline, pipeline_index, state_with_commit_or}
 use Rattle.gob_ledger.specs.Next.{allowed_units, counts_in, next_state}
 use Rattle.gob_ledger.specs.Archive.{Agrees, IsWithin}
-use Rattle.gob_ledger.specs.Expected.{IsMade, IsExpected, IsPublished, bytes_in}
+use Rattle.gob_ledger.specs.Expected.{IsMade, IsExpected, IsPublished, bytes_of_range}
 use Rattle.gob_ledger.specs.Spelling.{Proper, ProperPart}
 use Rattle.gob_ledger.specs.Totals.{SameCounts, counted_in, span_counts}
 use Rattle.gob_ledger.specs.Laws.{Lies, EachApart}
@@ -64,7 +64,7 @@ record Base (job : List ℕ) (archive : Held) (s : State) (settled : Files) : Ty
   files : PublishesExactly job archive s settled
   parts : (part : List ℕ) (m : Marks) → marks_at s part ≡ Some m → ProperPart part m
 
-nothing_at : (ks : List ℕ) (i : ℕ) → unwrap_or (slice_get (map (λ _. no_branch) ks) i) no_branch ≡ no_branch
+nothing_at : (ks : List ℕ) (i : ℕ) → unwrap_or (slice_get (map (λ _. no_branch_counts) ks) i) no_branch_counts ≡ no_branch_counts
 nothing_at [] i = refl
 nothing_at (k ∷ ks) zero = refl
 nothing_at (k ∷ ks) (suc i) = nothing_at ks i
@@ -153,7 +153,7 @@ not_done s units tiled fit u h d done lo hi = elim u.fresh as (λ b. u.fresh ≡
 -- ---- the run
 
 given_agrees : (archive held : Held) (part bytes : List ℕ) (s : Span) → at_name held part ≡ Some bytes
-    → at_name archive part ≡ Some bytes → bytes_in held part s ≡ bytes_in archive part s
+    → at_name archive part ≡ Some bytes → bytes_of_range held part s ≡ bytes_of_range archive part s
 unfolding bytes_from
 given_agrees archive held part bytes s a b = ap (λ o. take (s.hi - s.lo) (drop s.lo (unwrap_or o []))) (a ∙ sym b)
 
@@ -196,7 +196,7 @@ record Grounds (archive : Held) (s : State) : Type 0 where
 
 -- a committed unit: its bytes are the archive's, and it counted what they make
 record DoneUnit (job : Job) (archive held : Held) (j : Judged) : Type 0 where
-  bytes : bytes_in held j.0.part (span_of j.0) ≡ bytes_in archive j.0.part (span_of j.0)
+  bytes : bytes_of_range held j.0.part (span_of j.0) ≡ bytes_of_range archive j.0.part (span_of j.0)
   counts : counts_in j.1 ≡ Some (span_counts (without_rules job.plan) archive j.0.part (span_of j.0))
 
 -- groups that a state can take in
@@ -386,9 +386,9 @@ names_differ job archive held s settled gs name content other tells base groups 
     let new = done_range (run_on job s gs) tiled proper.parts u.unit.0.part (done_by found.pipeline u.unit) found.has in
     let apart = names_apart e.plan job.plan e.part u.unit.0.part e.done.span.lo u.unit.0.lo e.done.span.hi u.unit.0.hi
     e.made.target u.made.target old new
-    (sent_is_placed e.plan e.done.span.lo (bytes_in archive e.part e.done.span) e.made.target
+    (sent_is_placed e.plan e.done.span.lo (bytes_of_range archive e.part e.done.span) e.made.target
     (few_branches e.pipeline e.plan e.of_pipeline) (λ z. e.made.some (sym e.made.sends ∙ z)))
-    (sent_is_placed job.plan u.unit.0.lo (bytes_in held u.unit.0.part (span_of u.unit.0)) u.made.target
+    (sent_is_placed job.plan u.unit.0.lo (bytes_of_range held u.unit.0.part (span_of u.unit.0)) u.made.target
     (few_branches job.pipeline (without_rules job.plan) tells) (λ z. u.made.some (sym u.made.sends ∙ z)))
     (e.made.called ∙ (paths ∙ sym u.made.called)) in
     not_done s (units_in found.group) base.tiled (groups.fit found.group found.of_groups) u.unit.0
@@ -551,9 +551,9 @@ run_groupable job archive held settled o failing tells agrees order stores sound
           record {
             bytes = same;
             counts = c.1 ∙ ap (λ x. Some x)
-                (sym (same_counts job.plan (unit_fold job.plan j.0.lo (bytes_in held j.0.part (span_of j.0))))
+                (sym (same_counts job.plan (unit_fold job.plan j.0.lo (bytes_of_range held j.0.part (span_of j.0))))
                 ∙ (ap (counts_of (without_rules job.plan)) (sym
-                (same_fold job.plan j.0.lo (bytes_in held j.0.part (span_of j.0))))
+                (same_fold job.plan j.0.lo (bytes_of_range held j.0.part (span_of j.0))))
                 ∙ ap (λ b. counts_of (without_rules job.plan) (unit_fold (without_rules job.plan) j.0.lo b)) same));
           };
     }

@@ -10,8 +10,8 @@ use Rattle.std.proofs.lemmas.Bool.{and_parts, eqb-true}
 use Rattle.std.proofs.lemmas.Bool.Decides.{nat_tests}
 use Rattle.std.proofs.lemmas.List.Elements.{All-nil, All-cons}
 use Rattle.std.proofs.lemmas.Str.{IsUtf8-from_is_utf8}
-use Rattle.gob_bytes.specs.Digits.{offset, padded}
-use Rattle.gob_bytes.specs.Escapes.{escaped}
+use Rattle.gob_bytes.specs.Digits.{offset, padded_digits}
+use Rattle.gob_bytes.specs.Escapes.{escape_of}
 use Rattle.gob_bytes.specs.Lines.{lines_from}
 use Rattle.gob_bytes.specs.Paths.{begins_with, sequence_name, staging, under}
 use Rattle.gob_bytes.specs.Tables.{IsInByteOrder, names_of}
@@ -33,13 +33,13 @@ use Rattle.gob_ledger.specs.State.{State, TiledState}
 use Rattle.gob_ledger.specs.Archive.{Grows}
 use Rattle.gob_ledger.specs.Units.{UnitsFit, span_of, units_of, units_of_parts}
 use Rattle.gob_ledger.specs.Next.{Judged, next_state}
-use Rattle.gob_ledger.specs.Expected.{IsPublished, IsMade, bytes_in}
+use Rattle.gob_ledger.specs.Expected.{IsPublished, IsMade, bytes_of_range}
 use Rattle.gob_ledger.specs.Spelling.{Proper, ProperPart, SmallBranch, state_spelling, version_2}
 use Rattle.gob_ledger.specs.Delta.{Kept, KeepsAs, StateFollows, base_alone, change_of, delta_spelling, last_run}
 use Rattle.gob_ledger.specs.Delta.{state_of}
 use Rattle.gob_ledger.specs.Groups.{groups_of}
 use Rattle.gob_ledger.specs.Turns.{own_pulls, turns_of, verdicts_of}
-use Rattle.gob_ledger.specs.Examples.{done, fresh, job, lines_written, one_line, plain_state, span, two_done, two_lines}
+use Rattle.gob_ledger.specs.Examples.{range_done, fresh, job, lines_written, one_line, plain_state, span, two_done, two_lines}
 use Rattle.gob_ledger.proofs.Cutting.{units_fit}
 use Rattle.gob_ledger.proofs.Following.{follows_next}
 use Rattle.gob_ledger.proofs.OneState.{keeps_one}
@@ -64,10 +64,10 @@ use Rattle.gob_history.proofs.Keeps.{committing}
 use Rattle.gob_history.proofs.Kept.{stored_proper}
 use Rattle.gob_history.proofs.Stands.{settles_itself, standing}
 use Rattle.gob_history.proofs.Steadied.{steadied}
-use Rattle.gob_history_examples.specs.HalfLine.{HalfLineHistory, IsLeft, IsStopped, all_there, first_file}
+use Rattle.gob_history_examples.specs.HalfLine.{HalfLineHistory, LeavesHalfLine, StopsHalfWay, all_there, first_file}
 use Rattle.gob_history_examples.specs.HalfLine.{first_left, first_open, first_staged, first_steps, half_there}
 use Rattle.gob_history_examples.specs.HalfLine.{over_time}
-use Rattle.gob_history_examples.specs.HalfLine.{second_file, staged}
+use Rattle.gob_history_examples.specs.HalfLine.{second_file, files_with_staged}
 use Rattle.gob_history_examples.specs.HalfLine.{second_left, second_open, second_staged, second_steps, second_stopped}
 
 abbrev j1 : List ℕ
@@ -119,7 +119,7 @@ only_out lo bytes g bad content e some = absurd (some (sym e ∙ g.faults))
 record OfLine (held : Held) (lo hi : ℕ) (bytes file : List ℕ) : Type 0 where
   goes : GoesOut lo bytes
   some : bytes ≢ []
-  here : bytes_in held a_log (span lo hi) ≡ bytes
+  here : bytes_of_range held a_log (span lo hi) ≡ bytes
   called : target_name plain_plan a_log lo hi (out 0 []) ≡ file
 
 abbrev Publishes : Held → ℕ → ℕ → List ℕ → List ℕ → Type 0
@@ -148,8 +148,8 @@ only_published : (held : Held) (lo hi : ℕ) (bytes file : List ℕ) → OfLine 
     → (name content : List ℕ) → Publishes held lo hi name content → (name ≡ under j1 file) × (content ≡ bytes)
 only_published held lo hi bytes file o name content u =
     let one : line_unit lo hi ≡ u.unit = only_unit (line_unit lo hi) u.unit u.of_units in
-    let made : IsMade plain_plan a_log (span lo hi) (bytes_in held a_log (span lo hi)) u.path content = subst
-    (λ (j : Judged). IsMade plain_plan j.0.part (span_of j.0) (bytes_in held j.0.part (span_of j.0)) u.path content)
+    let made : IsMade plain_plan a_log (span lo hi) (bytes_of_range held a_log (span lo hi)) u.path content = subst
+    (λ (j : Judged). IsMade plain_plan j.0.part (span_of j.0) (bytes_of_range held j.0.part (span_of j.0)) u.path content)
     (sym one) u.made in
     let is = only_out lo bytes o.goes made.target content
     (ap (λ b. sends lo b made.target) (sym o.here) ∙ made.sends) made.some in
@@ -181,35 +181,35 @@ staged_for held lo hi bytes file m o there = record {
 }
 
 first_of : OfLine half_there 0 2 (codes "x\n") first_file
-unfolding bytes_from digits padded offset escaped target_name
+unfolding bytes_from digits padded_digits offset escape_of target_name
 first_of = record { goes = first_goes; some = λ e. cc; here = refl; called = refl }
 
 second_of : OfLine all_there 2 5 (codes "yy\n") second_file
-unfolding bytes_from digits padded offset escaped target_name
+unfolding bytes_from digits padded_digits offset escape_of target_name
 second_of = record { goes = second_goes; some = λ e. cc; here = refl; called = refl }
 
 -- ---- the states
 
 first_states : states_of_run job half_there [] None ≡ None ∷ Some one_line ∷ []
-unfolding groups_of digits escaped is_utf8 chars lib.Utf8.encode lines_from bytes_from test_holds unit_fold counts_of
+unfolding groups_of digits escape_of is_utf8 chars lib.Utf8.encode lines_from bytes_from test_holds unit_fold counts_of
     stop_of picks place_of line_rows record_of made_in_branch line_made ruling warnings_of verdict_of sum_of
     units_of_parts next_state own_pulls turns_of verdicts_of
 first_states = refl
 
 second_states : states_of_run job all_there [] (Some one_line) ≡ Some one_line ∷ Some two_done ∷ []
-unfolding groups_of digits escaped is_utf8 chars lib.Utf8.encode lines_from bytes_from test_holds unit_fold counts_of
+unfolding groups_of digits escape_of is_utf8 chars lib.Utf8.encode lines_from bytes_from test_holds unit_fold counts_of
     stop_of picks place_of line_rows record_of made_in_branch line_made ruling warnings_of verdict_of sum_of
     units_of_parts next_state own_pulls turns_of verdicts_of
 second_states = refl
 
 first_groups : run_groups job half_there [] None ≡ (line_unit 0 2 ∷ []) ∷ []
-unfolding groups_of digits escaped is_utf8 chars lib.Utf8.encode lines_from bytes_from test_holds unit_fold counts_of
+unfolding groups_of digits escape_of is_utf8 chars lib.Utf8.encode lines_from bytes_from test_holds unit_fold counts_of
     stop_of picks place_of line_rows record_of made_in_branch line_made ruling warnings_of verdict_of sum_of
     units_of_parts own_pulls turns_of verdicts_of
 first_groups = refl
 
 second_groups : run_groups job all_there [] (Some one_line) ≡ (line_unit 2 5 ∷ []) ∷ []
-unfolding groups_of digits escaped is_utf8 chars lib.Utf8.encode lines_from bytes_from test_holds unit_fold counts_of
+unfolding groups_of digits escape_of is_utf8 chars lib.Utf8.encode lines_from bytes_from test_holds unit_fold counts_of
     stop_of picks place_of line_rows record_of made_in_branch line_made ruling warnings_of verdict_of sum_of
     units_of_parts own_pulls turns_of verdicts_of
 second_groups = refl
@@ -268,10 +268,10 @@ proper_with run lines marks fits few s = record {
 }
 
 first_marks : Marks
-first_marks = record { next = 2; finished = done 0 2 ∷ []; owed = [] }
+first_marks = record { next = 2; finished = range_done 0 2 ∷ []; owed = [] }
 
 second_marks : Marks
-second_marks = record { next = 5; finished = done 0 2 ∷ done 2 5 ∷ []; owed = [] }
+second_marks = record { next = 5; finished = range_done 0 2 ∷ range_done 2 5 ∷ []; owed = [] }
 
 first_small : SmallMarks first_marks
 unfolding first_marks
@@ -282,7 +282,7 @@ first_small = record {
   first = first;
 }
   where
-    first : (d : Done) → Contains (done 0 2 ∷ []) d → d.pipeline < 1
+    first : (d : Done) → Contains (range_done 0 2 ∷ []) d → d.pipeline < 1
     first d (zero, below, is) = subst (λ (x : Done). x.pipeline < 1) is (lit< tt)
     first d (suc k, below, is) = absurd (omega (arith, below))
 
@@ -299,7 +299,7 @@ second_small = record {
   first = first;
 }
   where
-    first : (d : Done) → Contains (done 0 2 ∷ done 2 5 ∷ []) d → d.pipeline < 1
+    first : (d : Done) → Contains (range_done 0 2 ∷ range_done 2 5 ∷ []) d → d.pipeline < 1
     first d (zero, below, is) = subst (λ (x : Done). x.pipeline < 1) is (lit< tt)
     first d (suc zero, below, is) = subst (λ (x : Done). x.pipeline < 1) is (lit< tt)
     first d (suc (suc k), below, is) = absurd (omega (arith, below))
@@ -313,7 +313,7 @@ unfolding second_marks
 second_proper = proper_with 2 2 second_marks (lit< tt) (lit< tt) second_small
 
 second_units : units_of one_line all_there job.limits ≡ fresh a_log 2 5 ∷ []
-unfolding lines_from bytes_from units_of_parts escaped
+unfolding lines_from bytes_from units_of_parts escape_of
 second_units = refl
 
 first_tiled : TiledState one_line
@@ -387,7 +387,7 @@ trail_of held before m n k lo hi later keeps settled over c groups order each =
     Goes o = (front : List (List Judged)) × (rest : List (List Judged)) × (run_groups job held [] o ≡ front ++ rest)
         × LeftAlong job held o front (before ∷ n ∷ [])
 
-staged_over : (m : Files) (file content text : List ℕ) → StagedOver j1 m (staged m file content text)
+staged_over : (m : Files) (file content text : List ℕ) → StagedOver j1 m (files_with_staged m file content text)
 staged_over m file content text name un = by_state (bytes_eq name (codes "j1/stage/state")) refl
   where
     by_file : (b : Bool) → bytes_eq name (codes "j1/stage/0-0/" ++ file) ≡ b
@@ -436,7 +436,7 @@ second_fits = record {
 }
 
 second_committed : Committed all_there first_left (Some (base_alone one_line)) 2 5 second_left
-unfolding second_left change_of digits padded offset
+unfolding second_left change_of digits padded_digits offset
 second_committed = committed all_there first_left second_staged (Some (base_alone one_line)) two_done 2 5 second_file
     second_next (record {
       settled = first_committed.settled;
@@ -624,12 +624,12 @@ recovers (p ∷ q ∷ s ∷ t ∷ []) r =
     (record { base = refl; deltas = λ name p. refl }) in
     subst (RecoverAlong j1 over_time) (λ i. p_is i ∷ q_is i ∷ s_is i ∷ t_is i ∷ []) r
 
-is_stopped : IsStopped
+is_stopped : StopsHalfWay
 unfolding second_stopped do_steps after_rename first_left without_staging
 is_stopped = record { moved = refl; gone = refl; waiting = refl; unmoved = refl }
 
-is_left : IsLeft
-unfolding second_left do_steps after_rename first_left without_staging delta_spelling digits escaped
+is_left : LeavesHalfLine
+unfolding second_left do_steps after_rename first_left without_staging delta_spelling digits escape_of
 is_left = record { first = refl; second = refl; state = refl; change = refl }
 
 pub half_line_history : HalfLineHistory

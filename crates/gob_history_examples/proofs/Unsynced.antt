@@ -14,12 +14,12 @@ use Rattle.gob_recovery.specs.Settle.{without_staging}
 use Rattle.gob_recovery.proofs.Spelled.{to_one}
 use Rattle.gob_history.specs.Sound.{AllRecoverTo, Stores}
 use Rattle.gob_history.proofs.Stands.{kept_all}
-use Rattle.gob_history_examples.specs.Unsynced.{UnsyncedStandsForNothing, unsynced}
+use Rattle.gob_history_examples.specs.Unsynced.{UnsyncedStandsForNothing, unsynced_files}
 
 abbrev left : Files
 left = put no_files (codes "j1/state") (Some (clean (0 ∷ [])))
 
-is_left : Image unsynced left
+is_left : Image unsynced_files left
 unfolding Image
 is_left name = cases (bytes_eq name (codes "j1/state"))
   where

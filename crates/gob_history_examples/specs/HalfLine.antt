@@ -30,8 +30,8 @@ abbrev pub change_name : List ℕ
 change_name = codes "j1/delta/00000000000000000002"
 
 -- a run staged its one file, and the text that tells its state
-abbrev pub staged : Files → List ℕ → List ℕ → List ℕ → Files
-staged m file content text = put (put m (codes "j1/stage/0-0/" ++ file) (Some (clean content)))
+abbrev pub files_with_staged : Files → List ℕ → List ℕ → List ℕ → Files
+files_with_staged m file content text = put (put m (codes "j1/stage/0-0/" ++ file) (Some (clean content)))
     (codes "j1/stage/state") (Some (clean text))
 
 -- both get their lasting names
@@ -40,7 +40,7 @@ steps_to file target = move (codes "j1/stage/0-0/" ++ file) (codes "j1/" ++ file
     ∷ move (codes "j1/stage/state") target ∷ []
 
 abbrev pub first_staged : Files
-first_staged = staged no_files first_file (codes "x\n") (state_spelling version_2 one_line)
+first_staged = files_with_staged no_files first_file (codes "x\n") (state_spelling version_2 one_line)
 
 abbrev pub first_steps : List CommitStep
 first_steps = steps_to first_file (codes "j1/state")
@@ -54,7 +54,7 @@ unfoldable pub first_left : Files
 first_left = without_staging (codes "j1") (do_steps first_steps first_staged)
 
 abbrev pub second_staged : Files
-second_staged = staged first_left second_file (codes "yy\n") (delta_spelling version_2 one_line two_done)
+second_staged = files_with_staged first_left second_file (codes "yy\n") (delta_spelling version_2 one_line two_done)
 
 abbrev pub second_steps : List CommitStep
 second_steps = steps_to second_file change_name
@@ -77,14 +77,14 @@ over_time = (all_there, second_left) ∷ (all_there, second_stopped) ∷ (half_t
     ∷ (half_there, no_files) ∷ []
 
 -- the first move is done, and the second one isn't
-pub record IsStopped : Type 0 where
+pub record StopsHalfWay : Type 0 where
   pub moved : second_stopped (codes "j1/" ++ second_file) ≡ Some (clean (codes "yy\n"))
   pub gone : second_stopped (codes "j1/stage/0-0/" ++ second_file) ≡ None
   pub waiting : second_stopped (codes "j1/stage/state") ≡ Some (clean (delta_spelling version_2 one_line two_done))
   pub unmoved : second_stopped change_name ≡ None
 
 -- each line has its file, the state's file is that of the first run, and a change stands beside it
-pub record IsLeft : Type 0 where
+pub record LeavesHalfLine : Type 0 where
   pub first : second_left (codes "j1/" ++ first_file) ≡ Some (clean (codes "x\n"))
   pub second : second_left (codes "j1/" ++ second_file) ≡ Some (clean (codes "yy\n"))
   pub state : second_left (codes "j1/state") ≡ Some (clean (state_spelling version_2 one_line))
@@ -95,8 +95,8 @@ pub record IsLeft : Type 0 where
 pub record HalfLineHistory : Type 0 where
   pub first_run : states_of_run job half_there [] None ≡ None ∷ Some one_line ∷ []
   pub second_run : states_of_run job all_there [] (Some one_line) ≡ Some one_line ∷ Some two_done ∷ []
-  pub stopped : IsStopped
-  pub left : IsLeft
+  pub stopped : StopsHalfWay
+  pub left : LeavesHalfLine
   pub settles : Settles (codes "j1") second_stopped second_left
   pub history : History (Round (codes "j1")) (codes "j1") over_time
   pub recovers : RecoverAlong (codes "j1") over_time (Some two_done ∷ Some two_done ∷ Some one_line ∷ None ∷ [])

@@ -10,8 +10,8 @@ use Rattle.gob_ledger.specs.State.{State}
 use Rattle.gob_history.specs.Sound.{AllRecoverTo}
 
 -- the whole text of a state was appended, and not synced
-abbrev pub unsynced : Files
-unsynced = put no_files (codes "j1/state") (Some (dirty [] (state_spelling version_2 plain_state)))
+abbrev pub unsynced_files : Files
+unsynced_files = put no_files (codes "j1/state") (Some (dirty [] (state_spelling version_2 plain_state)))
 
 abbrev pub UnsyncedStandsForNothing : Type 0
-UnsyncedStandsForNothing = (archive : Held) (o : Option State) → AllRecoverTo (codes "j1") archive o unsynced → ⊥
+UnsyncedStandsForNothing = (archive : Held) (o : Option State) → AllRecoverTo (codes "j1") archive o unsynced_files → ⊥

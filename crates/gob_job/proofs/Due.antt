@@ -15,42 +15,42 @@ use Rattle.gob_job.specs.declared.faults.ValueFault.{ValueFault}
 use Rattle.gob_job.specs.declared.faults.ValueFault.TheVariants as value
 use Rattle.gob_job.specs.declared.faults.JobFault.{JobFault}
 use Rattle.gob_job.specs.declared.faults.JobFault.TheVariants as job
-use Rattle.gob_job.specs.Faults.{is_memory, value_fault, at_key, Takes, Reads, Gives}
+use Rattle.gob_job.specs.Faults.{is_memory, value_fault, at_key, TakesElement, ReadsValue, Gives}
 
 -- ---- of a step, a test or a place
 
 pub takes_then : {A B C D : Type 0} (s : A → C) (t : B → D) (f : C → Result D Refusal) (e : StepFault)
-    (due : Result C Refusal) → Takes s (Err e) due → Takes t (Err e) (and_then f due)
+    (due : Result C Refusal) → TakesElement s (Err e) due → TakesElement t (Err e) (and_then f due)
 takes_then s t f (step_fault.Refused r) due is = ap (and_then f) is
 takes_then s t f step_fault.Memory due is = tt
 
 pub takes_map : {A B C D : Type 0} (s : A → C) (t : B → D) (f : C → D) (e : StepFault) (due : Result C Refusal)
-    → Takes s (Err e) due → Takes t (Err e) (value_map f due)
+    → TakesElement s (Err e) due → TakesElement t (Err e) (value_map f due)
 takes_map s t f (step_fault.Refused r) due is = ap (value_map f) is
 takes_map s t f step_fault.Memory due is = tt
 
 -- the same fault of another reading
 pub takes_same : {A B C D : Type 0} (s : A → C) (t : B → D) (e : StepFault) (due : Result C Refusal)
     (other : Result D Refusal)
-    → ((r : Refusal) → due ≡ Err r → other ≡ Err r) → Takes s (Err e) due → Takes t (Err e) other
+    → ((r : Refusal) → due ≡ Err r → other ≡ Err r) → TakesElement s (Err e) due → TakesElement t (Err e) other
 takes_same s t (step_fault.Refused r) due other f is = f r is
 takes_same s t step_fault.Memory due other f is = tt
 
 -- ---- of a value
 
 pub takes_reads : {A B C : Type 0} (s : A → C) (t : B → C) (e : StepFault) (due : Result C Refusal)
-    → Takes s (Err e) due → Reads t (Err (value_fault e)) (fault_map keys.refused due)
+    → TakesElement s (Err e) due → ReadsValue t (Err (value_fault e)) (fault_map keys.refused due)
 takes_reads s t (step_fault.Refused r) due is = ap (fault_map keys.refused) is
 takes_reads s t step_fault.Memory due is = tt
 
 pub reads_then : {A B C D : Type 0} (s : A → C) (t : B → D) (f : C → Result D keys.ValueFault) (e : ValueFault)
-    (due : Result C keys.ValueFault) → Reads s (Err e) due → Reads t (Err e) (and_then f due)
+    (due : Result C keys.ValueFault) → ReadsValue s (Err e) due → ReadsValue t (Err e) (and_then f due)
 reads_then s t f (value.Refused r) due is = ap (and_then f) is
 reads_then s t f value.BadCount due is = ap (and_then f) is
 reads_then s t f value.Memory due is = tt
 
 pub reads_map : {A B C D : Type 0} (s : A → C) (t : B → D) (f : C → D) (e : ValueFault) (due : Result C keys.ValueFault)
-    → Reads s (Err e) due → Reads t (Err e) (value_map f due)
+    → ReadsValue s (Err e) due → ReadsValue t (Err e) (value_map f due)
 reads_map s t f (value.Refused r) due is = ap (value_map f) is
 reads_map s t f value.BadCount due is = ap (value_map f) is
 reads_map s t f value.Memory due is = tt
@@ -58,7 +58,7 @@ reads_map s t f value.Memory due is = tt
 -- ---- of a key
 
 pub reads_gives : {A B C : Type 0} (s : A → C) (t : B → C) (key : List ℕ) (e : ValueFault)
-    (due : Result C keys.ValueFault) → Reads s (Err e) due
+    (due : Result C keys.ValueFault) → ReadsValue s (Err e) due
     → Gives t (Err (at_key key e)) (fault_map (reading.fault_at key) due)
 reads_gives s t key (value.Refused (refusal.NoColumn column)) due is = ap (fault_map (reading.fault_at key)) is
 reads_gives s t key (value.Refused (refusal.BadKind column)) due is = ap (fault_map (reading.fault_at key)) is
@@ -100,12 +100,12 @@ gives_none s job.Memory due other is = absurd (true≢false other)
 -- ---- the exit of a `?`
 
 pub takes_handed : {A B : Type 0} (t : A → B) (r : Result A StepFault) (e : StepFault) (due : Result B Refusal)
-    → IsErrAnd r (λ y. y ≡ e) → Takes t (Err e) due → Takes t r due
-takes_handed t r e due handed is = subst (λ x. Takes t x due) (sym (err_is r e handed)) is
+    → IsErrAnd r (λ y. y ≡ e) → TakesElement t (Err e) due → TakesElement t r due
+takes_handed t r e due handed is = subst (λ x. TakesElement t x due) (sym (err_is r e handed)) is
 
 pub reads_handed : {A B : Type 0} (t : A → B) (r : Result A ValueFault) (e : ValueFault)
-    (due : Result B keys.ValueFault) → IsErrAnd r (λ y. y ≡ e) → Reads t (Err e) due → Reads t r due
-reads_handed t r e due handed is = subst (λ x. Reads t x due) (sym (err_is r e handed)) is
+    (due : Result B keys.ValueFault) → IsErrAnd r (λ y. y ≡ e) → ReadsValue t (Err e) due → ReadsValue t r due
+reads_handed t r e due handed is = subst (λ x. ReadsValue t x due) (sym (err_is r e handed)) is
 
 pub gives_handed : {A B : Type 0} (t : A → B) (r : Result A JobFault) (e : JobFault) (due : Result B reading.JobFault)
     → IsErrAnd r (λ y. y ≡ e) → Gives t (Err e) due → Gives t r due

@@ -4,7 +4,7 @@ use Rattle.std.proofs.Common.{length, Some, None, refl, sym, ap, ◌∙◌, arit
 use Rattle.std.specs.List.{list_any}
 use Rattle.std.proofs.lemmas.Bool.{true≢false, eqb-true}
 use Rattle.std.proofs.lemmas.List.Folds.{list_any-append}
-use Rattle.gob_jobs.specs.Words.{is_empty, only_if, pieces, trimmed, elements}
+use Rattle.gob_jobs.specs.Words.{is_empty, only_if, pieces, without_blanks, elements}
 
 -- no bytes are the empty list
 pub no_bytes : (c : ℕ) (value : List ℕ) (found : List (List ℕ)) → (length value == 0) ≡ true → found ≡ []
@@ -16,14 +16,14 @@ no_bytes c (b ∷ bs) found empty is = let none : length (b ∷ bs) ≡ 0 = eqb-
 
 -- some bytes are the elements that they are cut into
 some_bytes : (c : ℕ) (value : List ℕ) → (length value == 0) ≡ false
-    → elements c value ≡ only_if (λ es. not (list_any is_empty es)) (map trimmed (pieces (nat_eq c) value))
+    → elements c value ≡ only_if (λ es. not (list_any is_empty es)) (map without_blanks (pieces (nat_eq c) value))
 unfolding elements
 some_bytes c [] some = absurd (true≢false some)
 some_bytes c (b ∷ bs) some = refl
 
 -- where none of them is empty
 pub none_empty : (c : ℕ) (value : List ℕ) (es : List (List ℕ)) → (length value == 0) ≡ false
-    → map trimmed (pieces (nat_eq c) value) ≡ es → list_any is_empty es ≡ false → Some es ≡ elements c value
+    → map without_blanks (pieces (nat_eq c) value) ≡ es → list_any is_empty es ≡ false → Some es ≡ elements c value
 none_empty c value es some cut full =
     sym (some_bytes c value some ∙ (ap (only_if (λ xs. not (list_any is_empty xs))) cut
     ∙ ap (λ v. cond (not v) (Some es) None) full))
@@ -43,12 +43,12 @@ any_later false y is = is
 -- where one of them is
 pub one_empty : (c : ℕ) (value : List ℕ) (es : List (List ℕ)) (piece : List ℕ) (later : List (List ℕ)) {e : List ℕ}
     → (length value == 0) ≡ false → (length e == 0) ≡ true
-    → map trimmed (pieces (nat_eq c) value) ≡ es ++ map trimmed (piece ∷ later) → e ≡ trimmed piece
+    → map without_blanks (pieces (nat_eq c) value) ≡ es ++ map without_blanks (piece ∷ later) → e ≡ without_blanks piece
     → None ≡ elements c value
 one_empty c value es piece later {e} some none cut is =
-    let here : is_empty (trimmed piece) ≡ true = ap is_empty (sym is) ∙ is_none e none in
-    let any : list_any is_empty (es ++ trimmed piece ∷ map trimmed later) ≡ true =
-    list_any-append is_empty es (trimmed piece ∷ map trimmed later)
-    ∙ any_later (list_any is_empty es) _ (any_of (is_empty (trimmed piece)) _ here) in
+    let here : is_empty (without_blanks piece) ≡ true = ap is_empty (sym is) ∙ is_none e none in
+    let any : list_any is_empty (es ++ without_blanks piece ∷ map without_blanks later) ≡ true =
+    list_any-append is_empty es (without_blanks piece ∷ map without_blanks later)
+    ∙ any_later (list_any is_empty es) _ (any_of (is_empty (without_blanks piece)) _ here) in
     sym (some_bytes c value some ∙ (ap (only_if (λ xs. not (list_any is_empty xs))) cut
-    ∙ ap (λ v. cond (not v) (Some (es ++ trimmed piece ∷ map trimmed later)) None) any))
+    ∙ ap (λ v. cond (not v) (Some (es ++ without_blanks piece ∷ map without_blanks later)) None) any))

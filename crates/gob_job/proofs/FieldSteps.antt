@@ -15,12 +15,12 @@ use Rattle.gob_job.specs.declared.rows.Field.{Field}
 use Rattle.gob_job.specs.declared.rows.Field.TheVariants as field
 use Rattle.gob_job.specs.Drafts.{draft_from, draft_read, plan_reader, rules_from, rules_read, rules_reader, ReadsField}
 use Rattle.gob_job.specs.Drafts.{ReadsRule}
-use Rattle.gob_job.specs.Faults.{Reads}
+use Rattle.gob_job.specs.Faults.{ReadsValue}
 use Rattle.gob_job.specs.Rows.{reader_of}
 
 -- what was read, changed
 mapped : {A B C : Type 0} (s : A → B) (g : B → C) (r : Result A ValueFault) (due : Result B keys.ValueFault)
-    → Reads s r due → Reads (λ x. g (s x)) r (value_map g due)
+    → ReadsValue s r due → ReadsValue (λ x. g (s x)) r (value_map g due)
 mapped s g (Ok x) due is = ap (value_map g) is
 mapped s g (Err (value.Refused why)) due is = ap (value_map g) is
 mapped s g (Err value.BadCount) due is = ap (value_map g) is
@@ -67,18 +67,18 @@ rules_value rules.Scope d r v = refl
 
 pub draft_field : (which : Field) (f : PlanField) (old new : DraftHeld) (r : keys.RunRules) (v : List ℕ)
     (result : Result (Unit {0}) ValueFault) → which ≡ field.Plan f → ReadsField f old new v result
-    → Reads (λ _. in_draft r (draft_from new)) result (read_value (reader_of which) (in_draft r (draft_from old)) v)
+    → ReadsValue (λ _. in_draft r (draft_from new)) result (read_value (reader_of which) (in_draft r (draft_from old)) v)
 draft_field which f old new r v result is read =
-    subst (λ w. Reads (λ _. in_draft r (draft_from new)) result
+    subst (λ w. ReadsValue (λ _. in_draft r (draft_from new)) result
     (read_value (reader_of w) (in_draft r (draft_from old)) v)) (sym is)
-    (subst (Reads (λ _. in_draft r (draft_from new)) result) (plan_value f r (draft_from old) v)
+    (subst (ReadsValue (λ _. in_draft r (draft_from new)) result) (plan_value f r (draft_from old) v)
     (mapped (λ _. draft_from new) (in_draft r) result (draft_read (plan_reader f) (draft_from old) v) read))
 
 pub rules_field : (which : Field) (f : RulesField) (d : keys.Draft) (old new : RulesHeld) (v : List ℕ)
     (result : Result (Unit {0}) ValueFault) → which ≡ field.Rules f → ReadsRule f d.plan old new v result
-    → Reads (λ _. in_rules d (rules_from new)) result (read_value (reader_of which) (in_rules d (rules_from old)) v)
+    → ReadsValue (λ _. in_rules d (rules_from new)) result (read_value (reader_of which) (in_rules d (rules_from old)) v)
 rules_field which f d old new v result is read =
-    subst (λ w. Reads (λ _. in_rules d (rules_from new)) result
+    subst (λ w. ReadsValue (λ _. in_rules d (rules_from new)) result
     (read_value (reader_of w) (in_rules d (rules_from old)) v)) (sym is)
-    (subst (Reads (λ _. in_rules d (rules_from new)) result) (rules_value f d (rules_from old) v)
+    (subst (ReadsValue (λ _. in_rules d (rules_from new)) result) (rules_value f d (rules_from old) v)
     (mapped (λ _. rules_from new) (in_rules d) result (rules_read (rules_reader f) d.plan (rules_from old) v) read))

@@ -7,12 +7,12 @@ use Rattle.std.specs.Str.{bytes_eq}
 use Rattle.std.proofs.lemmas.Bool.{cond-false, cond_both, eqb-true}
 use Rattle.percent_encoding.specs.Percent.{percent_decode}
 use Rattle.percent_encoding.proofs.PercentLemmas.{All-percent_decode}
-use Rattle.gob_bytes.specs.Escapes.{escaped, AreBytes}
+use Rattle.gob_bytes.specs.Escapes.{escape_of, AreBytes}
 use Rattle.gob_bytes.proofs.Forms as forms
 use Rattle.gob_bytes.proofs.Tables.{same_name, name_itself}
 use Rattle.gob_jobs.specs.Words.{only_if}
-use Rattle.gob_jobs.specs.Pipelines.{is_key, unescaped}
-use Rattle.gob_job.specs.LookUps.{is_key_byte}
+use Rattle.gob_jobs.specs.Pipelines.{is_key, unescaped_value}
+use Rattle.gob_job.specs.LookUps.{is_look_up_byte}
 use Rattle.gob_job.proofs.Texts.{key_text}
 
 -- ---- keys
@@ -23,9 +23,9 @@ none_first b bs = elim (length (b ∷ bs) == 0) as (λ v. (length (b ∷ bs) == 
   | false ↦ λ e. refl
 ] refl
 
-pub key_is : (key : List ℕ) → (not (length key == 0) && list_all is_key_byte key) ≡ is_key key
+pub key_is : (key : List ℕ) → (not (length key == 0) && list_all is_look_up_byte key) ≡ is_key key
 key_is [] = refl
-key_is (b ∷ bs) = ap (λ v. not v && list_all is_key_byte (b ∷ bs)) (none_first b bs)
+key_is (b ∷ bs) = ap (λ v. not v && list_all is_look_up_byte (b ∷ bs)) (none_first b bs)
 
 pub other_key : (key : List ℕ) → is_key key ≡ false → None ≡ only_if is_key key
 other_key key other = sym (cond-false (is_key key) (Some key) None other)
@@ -38,16 +38,16 @@ not_text P Q key (Err e) told never = cond_both (is_key key) (Some key) None (λ
 
 -- ---- values
 
-pub value_some : (text bytes : List ℕ) → AreBytes bytes → escaped bytes ≡ text → Some bytes ≡ unescaped text
+pub value_some : (text bytes : List ℕ) → AreBytes bytes → escape_of bytes ≡ text → Some bytes ≡ unescaped_value text
 value_some text bytes small is =
     let decoded : percent_decode text ≡ bytes = ap percent_decode (sym is) ∙ forms.unescaped bytes small in
-    sym (ap (λ v. cond (bytes_eq (escaped v) text) (Some v) None) decoded
+    sym (ap (λ v. cond (bytes_eq (escape_of v) text) (Some v) None) decoded
     ∙ (ap (λ t. cond (bytes_eq t text) (Some bytes) None) is ∙ ap (λ v. cond v (Some bytes) None) (name_itself text)))
 
-pub value_none : (text : List ℕ) → AreBytes text → ((bytes : List ℕ) → AreBytes bytes → escaped bytes ≢ text)
-    → None ≡ unescaped text
+pub value_none : (text : List ℕ) → AreBytes text → ((bytes : List ℕ) → AreBytes bytes → escape_of bytes ≢ text)
+    → None ≡ unescaped_value text
 value_none text small never =
-    cond_both (bytes_eq (escaped (percent_decode text)) text) (Some (percent_decode text)) None (λ o. None ≡ o)
+    cond_both (bytes_eq (escape_of (percent_decode text)) text) (Some (percent_decode text)) None (λ o. None ≡ o)
     (λ same. absurd (never (percent_decode text) (All-percent_decode text small)
-    (same_name (escaped (percent_decode text)) text same)))
+    (same_name (escape_of (percent_decode text)) text same)))
     (λ _. refl)

@@ -4,11 +4,11 @@ use Rattle.gob_plan.specs.declared.rows.Column.{Column}
 use Rattle.gob_plan.specs.declared.checks.TestSpec.{TestSpec}
 use Rattle.gob_plan.specs.declared.steps.StepSpec.{StepSpec}
 use Rattle.gob_plan.specs.declared.steps.StepSpec.TheVariants as step
-use Rattle.gob_jobs.specs.Elements.{accepted, step_over}
+use Rattle.gob_jobs.specs.Elements.{accepted_step, step_over}
 
 -- a step that is no `where` is read as it is worded
 pub other_step : (columns : List Column) (s : StepSpec) → ((t : TestSpec) → s ≡ step.Where t → ⊥)
-    → step_over columns s ≡ accepted columns s
+    → step_over columns s ≡ accepted_step columns s
 other_step columns (step.Keep names) other = refl
 other_step columns (step.Drop names) other = refl
 other_step columns (step.Rename from to) other = refl

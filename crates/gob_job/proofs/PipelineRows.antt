@@ -8,7 +8,7 @@ use Rattle.gob_jobs.specs.Pipelines.{Setting, setting_line, pipeline_text}
 use Rattle.gob_jobs.specs.Reading.{setting_of_row, pipeline_of}
 use Rattle.gob_job.specs.declared.rows.Row.{Row}
 use Rattle.gob_job.specs.Rows.{row_from, rows_from}
-use Rattle.gob_job.specs.PipelineLines.{told_setting, told_lines, branch_lines}
+use Rattle.gob_job.specs.PipelineLines.{told_setting, told_lines, pipeline_branch_lines}
 use Rattle.gob_job.proofs.ItemLoops.{one_more}
 use Rattle.gob_job.proofs.BranchLoops.{range_more}
 
@@ -53,18 +53,18 @@ row_untold entries b into rows i row inside is so_far tells =
 -- ---- branches
 
 pub branch_told : (entries : Table (List ℕ)) (into more : List ℕ) (rows : List Row) (b n : ℕ) {whole : List ℕ} → b < n
-    → into ++ branch_lines entries (range_with_len b (n - b)) ≡ whole
+    → into ++ pipeline_branch_lines entries (range_with_len b (n - b)) ≡ whole
     → rows_from rows ≡ branch_rows → more ≡ into ++ told_lines entries b rows
-    → more ++ branch_lines entries (range_with_len (b + 1) (n - (b + 1))) ≡ whole
+    → more ++ pipeline_branch_lines entries (range_with_len (b + 1) (n - (b + 1))) ≡ whole
 branch_told entries into more rows b n inside so_far same added =
     let own = map (setting_of_row (at_name entries) b) (filter tells_plan branch_rows) in
     let rest = range_with_len (b + 1) (n - (b + 1)) in
-    let later = branch_lines entries rest in
+    let later = pipeline_branch_lines entries rest in
     ap (λ m. m ++ later) (added ∙ ap (λ rs. into ++ pipeline_text
     (map (setting_of_row (at_name entries) b) (filter tells_plan rs))) same)
     ∙ (append_assoc into (pipeline_text own) later
     ∙ (ap (λ x. into ++ x)
-    (sym (ap (branch_lines entries) (range_more b n inside)
+    (sym (ap (pipeline_branch_lines entries) (range_more b n inside)
     ∙ text_joined own (flat_map (λ c. map (setting_of_row (at_name entries) c) (filter tells_plan branch_rows))
     rest)))
     ∙ so_far))
@@ -74,7 +74,7 @@ branch_told entries into more rows b n inside so_far same added =
 pub whole_text : (entries : Table (List ℕ)) (branches : ℕ)
     → pipeline_of (at_name entries) branches ≡ pipeline_text
     (map (setting_of_row (at_name entries) 0) (filter tells_plan first_rows))
-    ++ branch_lines entries (range_with_len 0 branches)
+    ++ pipeline_branch_lines entries (range_with_len 0 branches)
 unfolding pipeline_of
 whole_text entries branches =
     text_joined (map (setting_of_row (at_name entries) 0) (filter tells_plan first_rows))

@@ -6,7 +6,7 @@ use Rattle.gob_jobs.specs.Reading.{LookUp, Reading, key_that_counts, value_of_ro
 use Rattle.gob_jobs.specs.Reading.{read_row}
 use Rattle.gob_job.specs.declared.faults.ValueFault.{ValueFault}
 use Rattle.gob_job.specs.declared.faults.JobFault.{JobFault as JobFaultMade}
-use Rattle.gob_job.specs.Faults.{at_key, Reads, Gives}
+use Rattle.gob_job.specs.Faults.{at_key, ReadsValue, Gives}
 use Rattle.gob_job.proofs.Due.{gives_then, reads_gives}
 
 pub row_value : (look : LookUp) (row : Row) (b : ℕ) (r : Reading) (value : List ℕ)
@@ -20,7 +20,7 @@ row_value look row b r value is = ap (and_then (λ v. fault_map (fault_at (key_t
 pub row_refused : {A : Type 0} (t : A → Reading) (u : A → Reading) (look : LookUp) (row : Row) (b : ℕ) (r : Reading)
     (value key : List ℕ) (e : ValueFault) → value_of_row look row b r.draft.plan ≡ Ok value
     → key ≡ key_that_counts look row b
-    → Reads u (Err e) (read_value row.reader r value) → Gives t (Err (at_key key e)) (read_row look row b r)
+    → ReadsValue u (Err e) (read_value row.reader r value) → Gives t (Err (at_key key e)) (read_row look row b r)
 row_refused t u look row b r value key e is counts refused =
     subst (Gives t (Err (at_key key e))) (sym (row_value look row b r value is))
     (subst (λ k. Gives t (Err (at_key key e)) (fault_map (fault_at k) (read_value row.reader r value))) counts

@@ -10,10 +10,10 @@ use Rattle.std.proofs.lemmas.Str.{IsUtf8-from_ascii}
 use Rattle.std.proofs.lemmas.Str.Ascii.{IsAscii-from_all}
 use Rattle.percent_encoding.specs.Percent.{percent_encode_byte}
 use Rattle.percent_encoding.proofs.PercentLemmas.{IsEscapeByte, All-percent_encode_byte}
-use Rattle.gob_bytes.specs.Escapes.{is_plain, escaped}
+use Rattle.gob_bytes.specs.Escapes.{is_plain, escape_of}
 use Rattle.gob_bytes.specs.Names.{is_column_name}
 use Rattle.gob_jobs.specs.Pipelines.{is_key}
-use Rattle.gob_job.specs.LookUps.{is_key_byte}
+use Rattle.gob_job.specs.LookUps.{is_look_up_byte}
 
 -- an ASCII byte
 abbrev IsLow : ℕ → Type 0
@@ -22,7 +22,7 @@ IsLow b = b < 128
 plain_low : (b : ℕ) → is_plain b ≡ true → IsLow b
 plain_low b is = grind (arith, nat_tests)
 
-key_low : (b : ℕ) → is_key_byte b ≡ true → IsLow b
+key_low : (b : ℕ) → is_look_up_byte b ≡ true → IsLow b
 key_low b is = grind (arith, nat_tests)
 
 escape_low : (b : ℕ) → IsEscapeByte b → IsLow b
@@ -36,19 +36,19 @@ all_low f low (b ∷ bs) all =
 low_text : (bs : List ℕ) → All IsLow bs → IsUtf8 bs
 low_text bs all = IsUtf8-from_ascii bs (IsAscii-from_all bs all)
 
-escaped_low : (bs : List ℕ) → All IsLow (escaped bs)
-unfolding escaped
+escaped_low : (bs : List ℕ) → All IsLow (escape_of bs)
+unfolding escape_of
 escaped_low [] = All-nil IsLow
 escaped_low (b ∷ bs) =
-    All-append IsLow (cond (is_plain b) (b ∷ []) (percent_encode_byte b)) (escaped bs)
+    All-append IsLow (cond (is_plain b) (b ∷ []) (percent_encode_byte b)) (escape_of bs)
     (cond_both (is_plain b) (b ∷ []) (percent_encode_byte b) (All IsLow)
     (λ plain. All-cons IsLow b [] (plain_low b plain) (All-nil IsLow))
     (λ _. All-weaker IsEscapeByte IsLow escape_low (percent_encode_byte b) (All-percent_encode_byte b)))
     (escaped_low bs)
 
 -- an escaped name is a text
-pub escaped_text : (bs : List ℕ) → IsUtf8 (escaped bs)
-escaped_text bs = low_text (escaped bs) (escaped_low bs)
+pub escaped_text : (bs : List ℕ) → IsUtf8 (escape_of bs)
+escaped_text bs = low_text (escape_of bs) (escaped_low bs)
 
 -- so is a column name
 pub name_text : (word : List ℕ) → is_column_name word ≡ true → IsUtf8 word
@@ -60,4 +60,4 @@ name_text word is =
 -- and a key of a pipeline text
 pub key_text : (key : List ℕ) → is_key key ≡ true → IsUtf8 key
 key_text [] is = absurd (true≢false (sym is))
-key_text (b ∷ bs) is = low_text (b ∷ bs) (all_low is_key_byte key_low (b ∷ bs) is)
+key_text (b ∷ bs) is = low_text (b ∷ bs) (all_low is_look_up_byte key_low (b ∷ bs) is)

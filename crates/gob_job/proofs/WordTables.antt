@@ -4,7 +4,7 @@ use Rattle.std.proofs.Common.{◌∙◌}
 use Rattle.std.specs.Option.{option_map, option_and_then}
 use Rattle.std.specs.Str.{bytes_eq}
 use Rattle.gob_bytes.specs.Tables.{Table, at_name}
-use Rattle.gob_jobs.specs.Elements.{Form, formed}
+use Rattle.gob_jobs.specs.Elements.{Form, form_in}
 
 -- a table with other values
 abbrev pub changed : {A B : Type 0} → (A → B) → Table A → Table B
@@ -28,6 +28,6 @@ through form (Some w) more = refl
 
 -- the form of a first word is that of the word's value
 pub formed_by : {W X : Type 0} (form : W → Form X) (words : Table W) (first : List ℕ) (more : List (List ℕ))
-    → formed (changed form words) (first ∷ more) ≡ option_and_then (λ w. form w more) (at_name words first)
+    → form_in (changed form words) (first ∷ more) ≡ option_and_then (λ w. form w more) (at_name words first)
 formed_by form words first more =
     ap (option_and_then (λ g. g more)) (at_changed form words first) ∙ through form (at_name words first) more

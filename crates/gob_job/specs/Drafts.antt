@@ -17,7 +17,7 @@ use Rattle.gob_job.specs.declared.draft.PlanField.TheVariants as plan
 use Rattle.gob_job.specs.declared.run_rules.RunRules.{RunRules as RulesHeld}
 use Rattle.gob_job.specs.declared.run_rules.RulesField.{RulesField}
 use Rattle.gob_job.specs.declared.run_rules.RulesField.TheVariants as rules
-use Rattle.gob_job.specs.Faults.{Reads}
+use Rattle.gob_job.specs.Faults.{ReadsValue}
 
 abbrev pub draft_from : DraftHeld → Draft
 draft_from d = record { plan = d.plan; branch = d.branch }
@@ -78,9 +78,9 @@ rules_reader rules.Scope = run_word commit_scopes with_scope
 -- a value was read over a draft, as it is due
 abbrev pub ReadsField : PlanField → DraftHeld → DraftHeld → List ℕ → Result (Unit {0}) ValueFaultMade → Type 0
 ReadsField f old new value result =
-    Reads (λ _. draft_from new) result (draft_read (plan_reader f) (draft_from old) value)
+    ReadsValue (λ _. draft_from new) result (draft_read (plan_reader f) (draft_from old) value)
 
 -- a value was read over rules, beside this plan
 abbrev pub ReadsRule : RulesField → Plan → RulesHeld → RulesHeld → List ℕ → Result (Unit {0}) ValueFaultMade → Type 0
 ReadsRule f p old new value result =
-    Reads (λ _. rules_from new) result (rules_read (rules_reader f) p (rules_from old) value)
+    ReadsValue (λ _. rules_from new) result (rules_read (rules_reader f) p (rules_from old) value)

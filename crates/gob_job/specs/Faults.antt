@@ -29,17 +29,17 @@ at_key key value.BadCount = job.BadPolicyCount key
 at_key key value.Memory = job.Memory
 
 -- a step, a test or a place read, as it is due
-abbrev pub Takes : {A B : Type 0} → (A → B) → Result A StepFault → Result B Refusal → Type 0
-Takes seen (Ok x) due = due ≡ Ok (seen x)
-Takes seen (Err (step_fault.Refused r)) due = due ≡ Err r
-Takes seen (Err step_fault.Memory) due = Unit {0}
+abbrev pub TakesElement : {A B : Type 0} → (A → B) → Result A StepFault → Result B Refusal → Type 0
+TakesElement seen (Ok x) due = due ≡ Ok (seen x)
+TakesElement seen (Err (step_fault.Refused r)) due = due ≡ Err r
+TakesElement seen (Err step_fault.Memory) due = Unit {0}
 
 -- a value read, as it is due
-abbrev pub Reads : {A B : Type 0} → (A → B) → Result A ValueFault → Result B keys.ValueFault → Type 0
-Reads seen (Ok x) due = due ≡ Ok (seen x)
-Reads seen (Err (value.Refused r)) due = due ≡ Err (keys.refused r)
-Reads seen (Err value.BadCount) due = due ≡ Err keys.bad_count
-Reads seen (Err value.Memory) due = Unit {0}
+abbrev pub ReadsValue : {A B : Type 0} → (A → B) → Result A ValueFault → Result B keys.ValueFault → Type 0
+ReadsValue seen (Ok x) due = due ≡ Ok (seen x)
+ReadsValue seen (Err (value.Refused r)) due = due ≡ Err (keys.refused r)
+ReadsValue seen (Err value.BadCount) due = due ≡ Err keys.bad_count
+ReadsValue seen (Err value.Memory) due = Unit {0}
 
 -- a job read, as it is due
 abbrev pub Gives : {A B : Type 0} → (A → B) → Result A JobFault → Result B reading.JobFault → Type 0
@@ -63,6 +63,6 @@ is_memory (job.Interpolation key) = false
 is_memory job.Memory = true
 
 -- what isn't refused, if it isn't
-abbrev pub unrefused : {A : Type 0} → A → Option Refusal → Result A Refusal
-unrefused x None = Ok x
-unrefused x (Some why) = Err why
+abbrev pub unless_some_refusal : {A : Type 0} → A → Option Refusal → Result A Refusal
+unless_some_refusal x None = Ok x
+unless_some_refusal x (Some why) = Err why

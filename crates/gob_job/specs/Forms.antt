@@ -11,9 +11,9 @@ only_value (v ∷ []) = value_word v
 only_value _ = None
 
 -- two numbers
-abbrev pub two_numbers : Form (ℕ × ℕ)
-two_numbers (low ∷ high ∷ []) = both (λ l h. (l, h)) (number_read low) (number_read high)
-two_numbers _ = None
+abbrev pub two_number_form : Form (ℕ × ℕ)
+two_number_form (low ∷ high ∷ []) = both (λ l h. (l, h)) (number_read low) (number_read high)
+two_number_form _ = None
 
 -- the only word, a column name
 abbrev pub only_name : Form (List ℕ)

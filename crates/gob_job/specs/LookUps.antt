@@ -16,5 +16,5 @@ look_of (values.Props props) = at_name props.now
 look_of (values.Settings settings) = last_value (map setting_from settings.now)
 
 -- a byte of a key of a pipeline text
-abbrev pub is_key_byte : ℕ → Bool
-is_key_byte c = is_letter c || is_digit c || nat_eq c 46
+abbrev pub is_look_up_byte : ℕ → Bool
+is_look_up_byte c = is_letter c || is_digit c || nat_eq c 46

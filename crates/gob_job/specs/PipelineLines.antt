@@ -18,7 +18,7 @@ told_lines entries b rows =
     pipeline_text (map (setting_of_row (at_name entries) b) (filter tells_plan (rows_from rows)))
 
 -- those of branches
-abbrev pub branch_lines : Table (List ℕ) → List ℕ → List ℕ
-branch_lines entries branches =
+abbrev pub pipeline_branch_lines : Table (List ℕ) → List ℕ → List ℕ
+pipeline_branch_lines entries branches =
     pipeline_text
     (flat_map (λ b. map (setting_of_row (at_name entries) b) (filter tells_plan branch_rows)) branches)

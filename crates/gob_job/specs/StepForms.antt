@@ -47,10 +47,10 @@ step_form of_step.Upper = column_words (λ name. step.Upper name)
 step_form of_step.Lower = column_words (λ name. step.Lower name)
 
 -- the counter of a branch by its word
-abbrev pub count_of : BranchCount → ℕ → Counter
-count_of of_branch.Written b = counter.Written b
-count_of of_branch.Errors b = counter.Errors b
-count_of of_branch.Optional b = counter.Optional b
+abbrev pub counter_of : BranchCount → ℕ → Counter
+counter_of of_branch.Written b = counter.Written b
+counter_of of_branch.Errors b = counter.Errors b
+counter_of of_branch.Optional b = counter.Optional b
 
 abbrev pub rule_form : ℕ → RuleWord → Form TaskRule
 rule_form branches of_rule.Range = range_words branches
@@ -65,8 +65,8 @@ place_form of_place.Day (c ∷ d ∷ ws) = None
 
 -- ---- the words
 
-abbrev pub check_words : Table CheckWord
-check_words =
+abbrev pub check_word_table : Table CheckWord
+check_word_table =
     (codes "null", of_check.Null)
     ∷ (codes "eq", of_check.Compare how.Eq)
     ∷ (codes "lt", of_check.Compare how.Lt)

@@ -6,7 +6,7 @@ ghost use Rattle.gob_jobs.specs.Elements as spec;
 ghost use Rattle.gob_jobs.specs.KeyTable.{strict_policy};
 ghost use Rattle.gob_jobs.specs.Words.{each_or_fault, value_map};
 ghost use Rattle.gob_job.specs.Cuts.{texts_of};
-ghost use Rattle.gob_job.specs.Faults.{Takes};
+ghost use Rattle.gob_job.specs.Faults.{TakesElement};
 ghost use Rattle.gob_job.specs.Forms as forms;
 
 use crate::columns::{bad_value, check_is_right, check_takes, kind_of};
@@ -75,7 +75,7 @@ pub(crate) fn only_value(alloc: Global, words: &[&[u8]]) -> Result<Option<Text>,
 
 // Two numbers, of which the first may be above the second.
 fn two_numbers(words: &[&[u8]]) -> Option<(u64, u64)>
-    ensures { result ≡ forms.two_numbers (texts_of words.now) }
+    ensures { result ≡ forms.two_number_form (texts_of words.now) }
 {
     match words {
         [low, high] => Some((read_u64(low)?, read_u64(high)?)),
@@ -86,7 +86,7 @@ fn two_numbers(words: &[&[u8]]) -> Option<(u64, u64)>
 // The check of a first word and the words behind the column. A value to compare with is still a text.
 #[tactic(auto, using(crate::proofs::Formed::check_formed))]
 fn worded_check(alloc: Global, first: &[u8], words: &[&[u8]]) -> Result<Option<Check>, NoMemory>
-    ensures { IfOk result (λ found. found ≡ spec.formed spec.check_forms (first.now ∷ texts_of words.now)) }
+    ensures { IfOk result (λ found. found ≡ spec.form_in spec.check_forms (first.now ∷ texts_of words.now)) }
 {
     let Some(word) = at_name(&CHECK_WORDS, first) else {
         return Ok(None);
@@ -179,7 +179,7 @@ fn check_of_kind(kind: Kind, check: Check) -> Option<Check>
 }
 
 fn test_of_kind(test: TestSpec, kind: Kind) -> Result<TestSpec, StepFault>
-    ensures { Takes (λ t. t) result (spec.test_of_kind test (Some kind)) }
+    ensures { TakesElement (λ t. t) result (spec.test_of_kind test (Some kind)) }
 {
     let TestSpec {
         negated,
@@ -202,7 +202,7 @@ fn test_of_kind(test: TestSpec, kind: Kind) -> Result<TestSpec, StepFault>
 /// A worded test over these columns: its column must be there, then be of a kind that is tested so, and then the rest
 /// must be right.
 pub(crate) fn test_over(columns: &[Column], test: TestSpec) -> Result<TestSpec, StepFault>
-    ensures { Takes (λ t. t) result (spec.test_over columns.now test) }
+    ensures { TakesElement (λ t. t) result (spec.test_over columns.now test) }
 {
     match kind_of(test.column.as_str(), columns) {
         Some(kind) => test_of_kind(test, kind),
@@ -219,7 +219,7 @@ pub(crate) fn read_test(
     columns: &[Column],
     element: &[u8],
 ) -> Result<TestSpec, StepFault>
-    ensures { Takes (λ t. t) result (spec.test_read columns.now element.now) }
+    ensures { TakesElement (λ t. t) result (spec.test_read columns.now element.now) }
 {
     let words = words_of(alloc, element)?;
     match worded_test(alloc, words.as_slice())? {
@@ -234,7 +234,7 @@ pub(crate) fn read_policies(
     columns: &[Column],
     elements: &[&[u8]],
 ) -> Result<List<PolicySpec>, StepFault>
-    ensures { Takes (λ ps. ps) result
+    ensures { TakesElement (λ ps. ps) result
         (value_map (map strict_policy) (each_or_fault (spec.test_read columns.now) (texts_of elements.now))) }
 {
     let mut policies = List::new(alloc);

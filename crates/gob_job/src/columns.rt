@@ -8,7 +8,7 @@ ghost use Rattle.gob_plan.specs.Columns.{is_there};
 ghost use Rattle.gob_plan.specs.Rows as rows;
 ghost use Rattle.gob_plan.specs.Tests as tests;
 ghost use Rattle.gob_meaning.specs.Steps as spec;
-ghost use Rattle.gob_job.specs.Faults.{Takes};
+ghost use Rattle.gob_job.specs.Faults.{TakesElement};
 
 use gob_plan::{
     Check, Column, How, Kind, List, NoMemory, Refusal, StepFault, StepSpec, TestSpec, Text, Value,
@@ -47,7 +47,7 @@ pub(crate) fn kind_of(name: &str, columns: &[Column]) -> Option<Kind>
 
 /// The kind of the column with this name, which must be there.
 pub(crate) fn kind_there(alloc: Global, name: &str, columns: &[Column]) -> Result<Kind, StepFault>
-    ensures { Takes (λ k. k) result (ok_or (rows.kind_of name.now columns.now) (NoColumn name.now)) }
+    ensures { TakesElement (λ k. k) result (ok_or (rows.kind_of name.now columns.now) (NoColumn name.now)) }
 {
     match kind_of(name, columns) {
         Some(kind) => Ok(kind),
@@ -200,7 +200,7 @@ fn with_column(
 
 #[tactic(auto, unfolding(gob_meaning::specs::Steps::columns_after))]
 fn keep(alloc: Global, names: &[Text], columns: &[Column]) -> Result<List<Column>, StepFault>
-    ensures { Takes (λ x. x) result (spec.columns_after (step.Keep names.now) columns.now) }
+    ensures { TakesElement (λ x. x) result (spec.columns_after (step.Keep names.now) columns.now) }
 {
     if let Some(name) = first_missing(names, columns) {
         let column = name.copy()?;
@@ -218,7 +218,7 @@ fn drop_columns(
     names: &[Text],
     columns: &[Column],
 ) -> Result<List<Column>, StepFault>
-    ensures { Takes (λ x. x) result (spec.columns_after (step.Drop names.now) columns.now) }
+    ensures { TakesElement (λ x. x) result (spec.columns_after (step.Drop names.now) columns.now) }
 {
     if let Some(name) = first_missing(names, columns) {
         let column = name.copy()?;
@@ -238,7 +238,7 @@ fn rename(
     to: &str,
     columns: &[Column],
 ) -> Result<List<Column>, StepFault>
-    ensures { Takes (λ x. x) result (spec.columns_after (step.Rename from.now to.now) columns.now) }
+    ensures { TakesElement (λ x. x) result (spec.columns_after (step.Rename from.now to.now) columns.now) }
 {
     kind_there(alloc, from, columns)?;
     if is_there(to, columns) {
@@ -254,7 +254,7 @@ fn cast(
     kind: Kind,
     columns: &[Column],
 ) -> Result<List<Column>, StepFault>
-    ensures { Takes (λ x. x) result (spec.columns_after (step.Cast name.now kind) columns.now) }
+    ensures { TakesElement (λ x. x) result (spec.columns_after (step.Cast name.now kind) columns.now) }
 {
     kind_there(alloc, name, columns)?;
     Ok(with_new_kind(alloc, name, kind, columns)?)
@@ -268,7 +268,7 @@ fn set(
     value: &Value,
     columns: &[Column],
 ) -> Result<List<Column>, StepFault>
-    ensures { Takes (λ x. x) result (spec.columns_after (step.Set name.now kind value.now) columns.now) }
+    ensures { TakesElement (λ x. x) result (spec.columns_after (step.Set name.now kind value.now) columns.now) }
 {
     if !is_of(kind, value) {
         return Err(bad_value());
@@ -284,7 +284,7 @@ fn set(
 
 #[tactic(auto, unfolding(gob_meaning::specs::Steps::columns_after))]
 fn copy(alloc: Global, from: &str, to: &str, columns: &[Column]) -> Result<List<Column>, StepFault>
-    ensures { Takes (λ x. x) result (spec.columns_after (step.Copy from.now to.now) columns.now) }
+    ensures { TakesElement (λ x. x) result (spec.columns_after (step.Copy from.now to.now) columns.now) }
 {
     let kind = kind_there(alloc, from, columns)?;
     if is_there(to, columns) || columns.len() >= MOST_COLUMNS {
@@ -296,7 +296,7 @@ fn copy(alloc: Global, from: &str, to: &str, columns: &[Column]) -> Result<List<
 // The column must be there and hold texts.
 #[tactic(auto, unfolding(gob_meaning::specs::Steps::columns_after))]
 fn text_there(alloc: Global, name: &str, columns: &[Column]) -> Result<(), StepFault>
-    ensures { Takes (λ _. columns.now) result (spec.columns_after (step.Upper name.now) columns.now) }
+    ensures { TakesElement (λ _. columns.now) result (spec.columns_after (step.Upper name.now) columns.now) }
 {
     match kind_there(alloc, name, columns)? {
         Kind::Text => Ok(()),
@@ -313,7 +313,7 @@ fn explode(
     separator: &Text,
     columns: &[Column],
 ) -> Result<List<Column>, StepFault>
-    ensures { Takes (λ x. x) result (spec.columns_after (step.Explode name.now separator.now) columns.now) }
+    ensures { TakesElement (λ x. x) result (spec.columns_after (step.Explode name.now separator.now) columns.now) }
 {
     text_there(alloc, name, columns)?;
     if separator.is_empty() {
@@ -324,8 +324,8 @@ fn explode(
 
 #[tactic(auto, unfolding(gob_meaning::specs::Steps::columns_after))]
 fn change_letters(alloc: Global, name: &str, columns: &[Column]) -> Result<List<Column>, StepFault>
-    ensures upper { Takes (λ x. x) result (spec.columns_after (step.Upper name.now) columns.now) }
-    ensures lower { Takes (λ x. x) result (spec.columns_after (step.Lower name.now) columns.now) }
+    ensures upper { TakesElement (λ x. x) result (spec.columns_after (step.Upper name.now) columns.now) }
+    ensures lower { TakesElement (λ x. x) result (spec.columns_after (step.Lower name.now) columns.now) }
 {
     text_there(alloc, name, columns)?;
     Ok(copied(alloc, columns)?)
@@ -333,7 +333,7 @@ fn change_letters(alloc: Global, name: &str, columns: &[Column]) -> Result<List<
 
 #[tactic(auto, unfolding(gob_meaning::specs::Steps::columns_after))]
 fn filter(alloc: Global, test: &TestSpec, columns: &[Column]) -> Result<List<Column>, StepFault>
-    ensures { Takes (λ x. x) result (spec.columns_after (step.Where test.now) columns.now) }
+    ensures { TakesElement (λ x. x) result (spec.columns_after (step.Where test.now) columns.now) }
 {
     let kind = kind_there(alloc, test.column.as_str(), columns)?;
     if !check_takes(&test.check, kind) {
@@ -352,7 +352,7 @@ pub(crate) fn columns_after(
     step: &StepSpec,
     columns: &[Column],
 ) -> Result<List<Column>, StepFault>
-    ensures { Takes (λ x. x) result (spec.columns_after step.now columns.now) }
+    ensures { TakesElement (λ x. x) result (spec.columns_after step.now columns.now) }
 {
     match step {
         StepSpec::Keep { columns: names } => keep(alloc, names.as_slice(), columns),

@@ -46,7 +46,7 @@ fn without_end(text: &[u8]) -> &[u8]
 /// The bytes without spaces and tabs at either end.
 #[tactic(auto, unfolding(gob_jobs::specs::Words::trimmed))]
 pub(crate) fn trimmed(text: &[u8]) -> &[u8]
-    ensures { result.now ≡ spec.trimmed text.now }
+    ensures { result.now ≡ spec.without_blanks text.now }
 {
     without_end(without_front(text))
 }
@@ -182,7 +182,7 @@ pub(crate) fn column_word(alloc: Global, word: &[u8]) -> Result<Option<Text>, No
 /// The text without spaces and tabs at either end.
 #[tactic(auto, unfolding(gob_jobs::specs::Words::trimmed))]
 pub(crate) fn trimmed_text(text: &str) -> &str
-    ensures { result.now ≡ spec.trimmed text.now }
+    ensures { result.now ≡ spec.without_blanks text.now }
 {
     without_text_end(without_text_front(text))
 }

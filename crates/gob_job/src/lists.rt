@@ -8,8 +8,8 @@ ghost use Rattle.gob_jobs.specs.Elements as elements;
 ghost use Rattle.gob_jobs.specs.KeyTable as spec;
 ghost use Rattle.gob_jobs.specs.Words.{each_read, number_within, value_map};
 ghost use Rattle.gob_job.specs.Cuts.{texts_of};
-ghost use Rattle.gob_job.specs.Faults.{Reads, Takes, unrefused};
-ghost use Rattle.gob_job.specs.Names.{named};
+ghost use Rattle.gob_job.specs.Faults.{ReadsValue, TakesElement, unless_some_refusal};
+ghost use Rattle.gob_job.specs.Names.{word_and_value};
 
 use crate::checks::read_policies;
 use crate::columns::{bad_value, kind_there};
@@ -37,7 +37,7 @@ pub(crate) fn listed<T: Copy>(
     table: &[Named<T>],
     value: &[u8],
 ) -> Result<Option<List<T>>, NoMemory>
-    ensures { IfOk result (λ found. found ≡ spec.list_read 44 (at_name (map named table.now)) value.now) }
+    ensures { IfOk result (λ found. found ≡ spec.list_read 44 (at_name (map word_and_value table.now)) value.now) }
 {
     let Some(elements) = elements(alloc, b',', value)? else {
         return Ok(None);
@@ -50,7 +50,7 @@ fn each_named<T: Copy>(
     table: &[Named<T>],
     elements: &[&[u8]],
 ) -> Result<Option<List<T>>, NoMemory>
-    ensures { IfOk result (λ found. found ≡ each_read (at_name (map named table.now)) (texts_of elements.now)) }
+    ensures { IfOk result (λ found. found ≡ each_read (at_name (map word_and_value table.now)) (texts_of elements.now)) }
 {
     let mut values = List::new(alloc);
     for element in elements {
@@ -178,7 +178,7 @@ pub(crate) fn steps_listed(
     columns: &[Column],
     value: &[u8],
 ) -> Result<List<StepSpec>, ValueFault>
-    ensures { Reads (λ steps. steps) result (spec.steps_listed columns.now value.now) }
+    ensures { ReadsValue (λ steps. steps) result (spec.steps_listed columns.now value.now) }
 {
     match few_elements(alloc, MOST_STEPS, b';', value)? {
         Some(elements) => Ok(read_steps(alloc, columns, elements.as_slice())?),
@@ -193,7 +193,7 @@ pub(crate) fn policies_listed(
     columns: &[Column],
     value: &[u8],
 ) -> Result<List<PolicySpec>, ValueFault>
-    ensures { Reads (λ policies. policies) result
+    ensures { ReadsValue (λ policies. policies) result
         (value_map (map spec.strict_policy) (spec.tests_listed columns.now value.now)) }
 {
     match few_elements(alloc, MOST_TESTS, b';', value)? {
@@ -204,7 +204,7 @@ pub(crate) fn policies_listed(
 
 // Why a format doesn't write these columns, if it doesn't.
 fn check_written(format: Format, columns: &[Column]) -> Result<(), StepFault>
-    ensures { Takes (λ _. format) result (unrefused format (plans.write_refusal format columns.now)) }
+    ensures { TakesElement (λ _. format) result (unless_some_refusal format (plans.write_refusal format columns.now)) }
 {
     if format != Format::Lines {
         return Ok(());
@@ -228,7 +228,7 @@ fn bad_kind(column: &Column) -> Result<StepFault, NoMemory>
 /// The format of a branch with these columns.
 #[tactic(auto, unfolding(gob_jobs::specs::KeyTable::format_read))]
 pub(crate) fn read_format(columns: &[Column], value: &[u8]) -> Result<Format, ValueFault>
-    ensures { Reads (λ format. format) result (spec.format_read columns.now value.now) }
+    ensures { ReadsValue (λ format. format) result (spec.format_read columns.now value.now) }
 {
     let Some(format) = format_of(value) else {
         return Err(ValueFault::bad_value());
@@ -257,7 +257,7 @@ const PLACE_WORDS: [Named<PlaceWord>; 2] = [
 
 #[tactic(auto, using(crate::proofs::Formed::place_formed))]
 fn worded_place(alloc: Global, words: &[&[u8]]) -> Result<Option<PlaceSpec>, NoMemory>
-    ensures { IfOk result (λ found. found ≡ elements.formed elements.place_forms (texts_of words.now)) }
+    ensures { IfOk result (λ found. found ≡ elements.form_in elements.place_forms (texts_of words.now)) }
 {
     let [first, more @ ..] = words else {
         return Ok(None);
@@ -277,7 +277,7 @@ fn worded_place(alloc: Global, words: &[&[u8]]) -> Result<Option<PlaceSpec>, NoM
 
 // What a folder is made of must be a column of integers.
 fn check_placed(alloc: Global, place: &PlaceSpec, columns: &[Column]) -> Result<(), StepFault>
-    ensures { Takes (λ _. place.now) result (unrefused place.now (plans.place_refusal place.now columns.now)) }
+    ensures { TakesElement (λ _. place.now) result (unless_some_refusal place.now (plans.place_refusal place.now columns.now)) }
 {
     let PlaceSpec::Day { column } = place else {
         return Ok(());
@@ -297,7 +297,7 @@ pub(crate) fn read_place(
     columns: &[Column],
     value: &[u8],
 ) -> Result<PlaceSpec, ValueFault>
-    ensures { Reads (λ place. place) result (spec.place_read columns.now value.now) }
+    ensures { ReadsValue (λ place. place) result (spec.place_read columns.now value.now) }
 {
     let words = words_of(alloc, value)?;
     match worded_place(alloc, words.as_slice())? {

@@ -1,13 +1,13 @@
 //! Pipeline texts: a line for each key that bears on what is made, with its value.
 ghost use Rattle.std.specs.Prelude.{◌≡◌, ◌++◌, IfOk, OnOk, map, nat_eq, option_map};
 ghost use Rattle.std.specs.List.{list_all, range_with_len};
-ghost use Rattle.gob_bytes.specs.Escapes.{escaped};
+ghost use Rattle.gob_bytes.specs.Escapes.{escape_of};
 ghost use Rattle.gob_bytes.specs.Tables.{at_name};
 ghost use Rattle.gob_jobs.specs.Pipelines as spec;
 ghost use Rattle.gob_jobs.specs.Reading as reading;
 ghost use Rattle.gob_jobs.specs.Words.{only_if, pieces};
-ghost use Rattle.gob_job.specs.LookUps.{is_key_byte, setting_from};
-ghost use Rattle.gob_job.specs.PipelineLines.{branch_lines, told_lines, told_setting};
+ghost use Rattle.gob_job.specs.LookUps.{is_look_up_byte, setting_from};
+ghost use Rattle.gob_job.specs.PipelineLines.{pipeline_branch_lines, told_lines, told_setting};
 ghost use Rattle.gob_job.specs.Rows.{need_from, row_from};
 
 use crate::cuts::{split_piece, trimmed_text};
@@ -21,7 +21,7 @@ use std::str;
 
 // The name as it is escaped.
 fn escaped(alloc: Global, name: &str) -> Result<Text, NoMemory>
-    ensures { IfOk result (λ text. text ≡ escaped name.now) }
+    ensures { IfOk result (λ text. text ≡ escape_of name.now) }
 {
     let mut bytes = Vec::new(alloc);
     push_escaped(&mut bytes, name)?;
@@ -98,7 +98,7 @@ fn push_branches(
     props: &Props,
     branches: u32,
 ) -> Result<(), NoMemory>
-    ensures { OnOk result (into.new ≡ into.old ++ branch_lines props.now (range_with_len 0 branches)) }
+    ensures { OnOk result (into.new ≡ into.old ++ pipeline_branch_lines props.now (range_with_len 0 branches)) }
 {
     for branch in 0..branches {
         push_rows(alloc, into, props, branch_rows(), branch)?;
@@ -136,20 +136,20 @@ fn is_key(key: &[u8]) -> bool
 }
 
 fn is_key_byte(byte: u8) -> bool
-    ensures { result ≡ is_key_byte byte }
+    ensures { result ≡ is_look_up_byte byte }
 {
     byte.is_ascii_alphanumeric() || byte == b'.'
 }
 
 fn are_key_bytes(key: &[u8]) -> bool
-    ensures { result ≡ list_all is_key_byte key.now }
+    ensures { result ≡ list_all is_look_up_byte key.now }
 {
     key.iter().all(|b| is_key_byte(*b))
 }
 
 // The value that is escaped so; bytes have one spelling.
 fn read_value(alloc: Global, text: &[u8]) -> Result<Option<Bytes>, NoMemory>
-    ensures { IfOk result (λ found. found ≡ spec.unescaped text.now) }
+    ensures { IfOk result (λ found. found ≡ spec.unescaped_value text.now) }
 {
     match unescape(alloc, text)? {
         Some(bytes) => Ok(Some(Bytes::from_vec(bytes))),

@@ -3,7 +3,7 @@ ghost use Rattle.std.specs.Prelude.{◌≡◌, IfOk};
 ghost use Rattle.std.specs.List.{range_with_len};
 ghost use Rattle.gob_jobs.specs.Reading as spec;
 ghost use Rattle.gob_job.specs.Drafts.{rules_from};
-ghost use Rattle.gob_job.specs.Faults.{Reads};
+ghost use Rattle.gob_job.specs.Faults.{ReadsValue};
 ghost use Rattle.gob_job.specs.LookUps.{look_of};
 ghost use Rattle.gob_job.specs.Readings.{Leaves, reading_from};
 ghost use Rattle.gob_job.specs.Rows.{reader_of, row_from, rows_from};
@@ -102,7 +102,7 @@ impl Reading {
     }
 
     fn read_value(&mut self, alloc: Global, field: Field, value: &str) -> Result<(), ValueFault>
-        ensures { Reads (λ _. reading_from self.new) result
+        ensures { ReadsValue (λ _. reading_from self.new) result
             (spec.read_value (reader_of field) (reading_from self.old) value.now) }
     {
         match field {

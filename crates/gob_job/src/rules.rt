@@ -140,7 +140,7 @@ const RULE_WORDS: [Named<RuleWord>; 2] = [
 
 #[tactic(auto, using(crate::proofs::Formed::rule_formed))]
 fn worded_rule(branches: u32, words: &[&[u8]]) -> Option<TaskRule>
-    ensures { result ≡ spec.formed (spec.rule_forms branches) (texts_of words.now) }
+    ensures { result ≡ spec.form_in (spec.rule_forms branches) (texts_of words.now) }
 {
     let [first, more @ ..] = words else {
         return None;

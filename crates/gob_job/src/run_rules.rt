@@ -1,10 +1,10 @@
 //! What a pipeline text doesn't tell: by which rules the job's runs go.
 ghost use Rattle.std.specs.Prelude.{◌≡◌};
 ghost use Rattle.gob_plan.specs.declared.plan.Plan.{Plan};
-ghost use Rattle.gob_jobs.specs.KeyTable.{known};
+ghost use Rattle.gob_jobs.specs.KeyTable.{known_value};
 ghost use Rattle.gob_jobs.specs.Words.{number_within};
 ghost use Rattle.gob_job.specs.Drafts.{ReadsRule};
-ghost use Rattle.gob_job.specs.Faults.{Reads};
+ghost use Rattle.gob_job.specs.Faults.{ReadsValue};
 ghost use Rattle.gob_job.specs.declared.run_rules.RulesField.TheVariants as field;
 
 use crate::cuts::number_within;
@@ -52,7 +52,7 @@ pub(crate) struct RunRules {
 
 // A number in this range.
 fn number(low: u64, high: u64, value: &str) -> Result<u64, ValueFault>
-    ensures { Reads (λ n. n) result (known (number_within low high value.now)) }
+    ensures { ReadsValue (λ n. n) result (known_value (number_within low high value.now)) }
 {
     match number_within(low, high, value.as_bytes()) {
         Some(n) => Ok(n),

@@ -3,7 +3,7 @@ ghost use Rattle.std.specs.Prelude.{◌≡◌, IfOk};
 ghost use Rattle.gob_jobs.specs.Elements as spec;
 ghost use Rattle.gob_jobs.specs.Words.{each_read};
 ghost use Rattle.gob_job.specs.Cuts.{texts_of};
-ghost use Rattle.gob_job.specs.Faults.{Takes};
+ghost use Rattle.gob_job.specs.Faults.{TakesElement};
 ghost use Rattle.gob_job.specs.declared.steps.StepWord.TheVariants as word;
 ghost use Rattle.gob_job.specs.Forms as forms;
 ghost use Rattle.gob_job.specs.StepForms.{step_form};
@@ -253,7 +253,7 @@ fn step_of(alloc: Global, word: StepWord, words: &[&[u8]]) -> Result<Option<Step
 
 #[tactic(auto, using(crate::proofs::Formed::step_formed))]
 fn worded_step(alloc: Global, words: &[&[u8]]) -> Result<Option<StepSpec>, NoMemory>
-    ensures { IfOk result (λ found. found ≡ spec.formed spec.step_forms (texts_of words.now)) }
+    ensures { IfOk result (λ found. found ≡ spec.form_in spec.step_forms (texts_of words.now)) }
 {
     let [first, more @ ..] = words else {
         return Ok(None);
@@ -268,7 +268,7 @@ fn worded_step(alloc: Global, words: &[&[u8]]) -> Result<Option<StepSpec>, NoMem
 
 // A worded step over these columns.
 fn step_over(alloc: Global, columns: &[Column], step: StepSpec) -> Result<StepSpec, StepFault>
-    ensures { Takes (λ s. s) result (spec.step_over columns.now step) }
+    ensures { TakesElement (λ s. s) result (spec.step_over columns.now step) }
 {
     match step {
         StepSpec::Where { test } => Ok(StepSpec::Where {
@@ -284,7 +284,7 @@ fn step_over(alloc: Global, columns: &[Column], step: StepSpec) -> Result<StepSp
 // The step that an element is.
 #[tactic(auto, unfolding(gob_jobs::specs::Elements::step_read))]
 fn read_step(alloc: Global, columns: &[Column], element: &[u8]) -> Result<StepSpec, StepFault>
-    ensures { Takes (λ s. s) result (spec.step_read columns.now element.now) }
+    ensures { TakesElement (λ s. s) result (spec.step_read columns.now element.now) }
 {
     let words = words_of(alloc, element)?;
     match worded_step(alloc, words.as_slice())? {
@@ -299,7 +299,7 @@ pub(crate) fn read_steps(
     columns: &[Column],
     elements: &[&[u8]],
 ) -> Result<List<StepSpec>, StepFault>
-    ensures { Takes (λ ss. ss) result (spec.steps_read columns.now (texts_of elements.now)) }
+    ensures { TakesElement (λ ss. ss) result (spec.steps_read columns.now (texts_of elements.now)) }
 {
     let mut steps = List::new(alloc);
     let mut left = copied(alloc, columns)?;

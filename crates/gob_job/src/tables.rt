@@ -3,7 +3,7 @@ ghost use Rattle.std.specs.Prelude.{◌≡◌, map};
 ghost use Rattle.gob_bytes.specs.Tables.{at_name};
 ghost use Rattle.gob_jobs.specs.Elements as elements;
 ghost use Rattle.gob_jobs.specs.KeyTable as keys;
-ghost use Rattle.gob_job.specs.Names.{named};
+ghost use Rattle.gob_job.specs.Names.{word_and_value};
 
 use gob_plan::{CommitPolicy, CommitScope, ForkHow, Format, Kind, Mode};
 
@@ -15,7 +15,7 @@ pub(crate) struct Named<T> {
 
 /// The value that the word stands for.
 pub(crate) fn at_name<T: Copy>(table: &[Named<T>], word: &[u8]) -> Option<T>
-    ensures { result ≡ at_name (map named table.now) word.now }
+    ensures { result ≡ at_name (map word_and_value table.now) word.now }
 {
     for entry in table {
         if word == entry.name.as_bytes() {

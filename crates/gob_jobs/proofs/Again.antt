@@ -10,7 +10,7 @@ use Rattle.gob_plan.specs.declared.plan.Format.{Format}
 use Rattle.gob_plan.specs.declared.plan.Format.TheVariants as format
 use Rattle.gob_plan.specs.declared.plan.ForkHow.{ForkHow}
 use Rattle.gob_plan.specs.declared.plan.ForkHow.TheVariants as fork_how
-use Rattle.gob_jobs.specs.Words.{and_then, trimmed}
+use Rattle.gob_jobs.specs.Words.{and_then, without_blanks}
 use Rattle.gob_jobs.specs.KeyTable.{Standing, once, for_each_branch, for_each_branch_or_all, Need, needed, else_is}
 use Rattle.gob_jobs.specs.KeyTable.{needed_unless_lines, needed_unless_all, Row}
 use Rattle.gob_jobs.specs.Reading.{LookUp, JobFault, interpolation, bad_value, missing, Reading, with_number}
@@ -25,7 +25,7 @@ use Rattle.gob_jobs.proofs.Trimming.{trimmed_twice}
 pub record IsFine (text : List ℕ) : Type 0 where
   pub plain : has_interpolation text ≡ false
   pub utf8 : is_utf8 text ≡ true
-  pub bare : trimmed text ≡ text
+  pub bare : without_blanks text ≡ text
 
 -- ---- a value that was found
 
@@ -46,7 +46,7 @@ from_fine key text fine =
 
 found_fine : (key d v : List ℕ) (absent : Result (List ℕ) JobFault) (o : Option (List ℕ))
     → value_found key absent o ≡ Ok v → (absent ≡ Ok v → d ≡ v) → IsFine d
-    → (unwrap_or (option_map trimmed o) d ≡ v) × IsFine v
+    → (unwrap_or (option_map without_blanks o) d ≡ v) × IsFine v
 found_fine key d v absent None is else_is_d fine = let e = else_is_d is in (e, subst_fine d v e fine)
   where
     subst_fine : (x y : List ℕ) → x ≡ y → IsFine x → IsFine y
@@ -54,15 +54,15 @@ found_fine key d v absent None is else_is_d fine = let e = else_is_d is in (e, s
       plain = ap has_interpolation (sym e) ∙ f.plain;
       utf8 = ap is_utf8 (sym e)
           ∙ f.utf8;
-      bare = ap trimmed (sym e) ∙ (f.bare ∙ e);
+      bare = ap without_blanks (sym e) ∙ (f.bare ∙ e);
     }
 found_fine key d v absent (Some value) is else_is_d fine =
-    let p = at_key key (trimmed value) v is in (
+    let p = at_key key (without_blanks value) v is in (
       p.2,
       record {
         plain = ap has_interpolation (sym p.2) ∙ p.0;
         utf8 = ap is_utf8 (sym p.2) ∙ p.1;
-        bare = ap trimmed (sym p.2) ∙ (trimmed_twice value ∙ p.2);
+        bare = ap without_blanks (sym p.2) ∙ (trimmed_twice value ∙ p.2);
       },
     )
 
@@ -178,7 +178,7 @@ rows_fine look (row ∷ rows) b r s fine is =
       record {
         plain = ap has_interpolation v.0 ∙ v.1.plain;
         utf8 = ap is_utf8 v.0 ∙ v.1.utf8;
-        bare = ap trimmed v.0
+        bare = ap without_blanks v.0
             ∙ (v.1.bare ∙ sym v.0);
       },
       rows_fine look rows b p.0 s fine.1 p.2,

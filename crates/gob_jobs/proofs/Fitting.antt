@@ -44,11 +44,11 @@ use Rattle.gob_meaning.specs.Plans.{reads_columns, write_refusal, writes_columns
 use Rattle.gob_meaning.specs.Plans.{counter_fits, rule_fits}
 use Rattle.gob_jobs.specs.Words.{and_then, value_map, fault_map, both, only_if, each_read, each_or_fault, is_empty}
 use Rattle.gob_jobs.specs.Words.{pieces, elements, few_elements, words_of, number_within}
-use Rattle.gob_jobs.specs.Elements.{Form, formed, worded_test, check_of_kind, test_of_kind, test_over, test_read}
-use Rattle.gob_jobs.specs.Elements.{step_forms, accepted, step_over, step_read, steps_read, place_forms, unit_counters}
+use Rattle.gob_jobs.specs.Elements.{Form, form_in, worded_test, check_of_kind, test_of_kind, test_over, test_read}
+use Rattle.gob_jobs.specs.Elements.{step_forms, accepted_step, step_over, step_read, steps_read, place_forms, unit_counters}
 use Rattle.gob_jobs.specs.Elements.{branch_counters, branch_counter, counter_read, range_words, share_words}
 use Rattle.gob_jobs.specs.Elements.{rule_is_right, rule_forms, rule_read}
-use Rattle.gob_jobs.specs.KeyTable.{ValueFault, refused, bad_count, known, unless_refused, list_read, formats}
+use Rattle.gob_jobs.specs.KeyTable.{ValueFault, refused, bad_count, known_value, unless_refused, list_read, formats}
 use Rattle.gob_jobs.specs.KeyTable.{line_columns, column_read, columns_listed, columns_read, steps_listed, tests_listed}
 use Rattle.gob_jobs.specs.KeyTable.{fork_tests, strict_policy, as_many, modes_listed, with_modes, format_read}
 use Rattle.gob_jobs.specs.KeyTable.{place_read, rules_listed, strict_rule, with_task_modes}
@@ -133,7 +133,7 @@ tests_of columns (x ∷ xs) ts is =
     )
 
 pub few_known : (most separator : ℕ) (value : List ℕ) (es : List (List ℕ))
-    → known (few_elements most separator value) ≡ Ok es → nat_le (length es) most ≡ true
+    → known_value (few_elements most separator value) ≡ Ok es → nat_le (length es) most ≡ true
 few_known most separator value es is =
     let p = some_then (only_if (λ xs. nat_le (length xs) most)) (elements separator value) es
     (known_ok (few_elements most separator value) es is) in
@@ -144,7 +144,7 @@ pub tests_listed_fit : (columns : List Column) (value : List ℕ) (ts : List Tes
     → tests_listed columns value ≡ Ok ts → (tests_fit columns ts ≡ true) × (nat_le (length ts) 16 ≡ true)
 unfolding tests_listed
 tests_listed_fit columns value ts is =
-    let p = then_ok (λ es. fault_map refused (each_or_fault (test_read columns) es)) (known (few_elements 16 59 value))
+    let p = then_ok (λ es. fault_map refused (each_or_fault (test_read columns) es)) (known_value (few_elements 16 59 value))
     ts is in
     let q = tests_of columns p.0 ts (fault_ok refused (each_or_fault (test_read columns) p.0) ts p.2) in
     (q.0, ap (λ n. nat_le n 16) q.1 ∙ few_known 16 59 value p.0 p.1)
@@ -166,7 +166,7 @@ where_accepted columns t k = (
 Takes : List Column → StepSpec → Type 0
 Takes columns s = (after : List Column) × (columns_after s columns ≡ Ok after)
 
-accepted_takes : (columns : List Column) (s t : StepSpec) → accepted columns s ≡ Ok t → Takes columns t
+accepted_takes : (columns : List Column) (s t : StepSpec) → accepted_step columns s ≡ Ok t → Takes columns t
 unfolding Takes
 accepted_takes columns s t is =
     let m = map_ok (λ after. s) (columns_after s columns) t is in
@@ -192,7 +192,7 @@ step_read_takes : (columns : List Column) (element : List ℕ) (s : StepSpec) �
     → Takes columns s
 unfolding step_read
 step_read_takes columns element s is =
-    let p = then_ok (step_over columns) (ok_or (formed step_forms (words_of element)) BadValue) s is in
+    let p = then_ok (step_over columns) (ok_or (form_in step_forms (words_of element)) BadValue) s is in
     over_takes columns p.0 s p.2
 
 next_refused : (i : ℕ) (s : StepSpec) (ss : List StepSpec) (columns : List Column) → Takes columns s
@@ -224,7 +224,7 @@ pub steps_listed_fit : (columns : List Column) (value : List ℕ) (ss : List Ste
     → steps_listed columns value ≡ Ok ss → (is_none (first_refused ss columns) ≡ true) × (nat_le (length ss) 32 ≡ true)
 unfolding steps_listed
 steps_listed_fit columns value ss is =
-    let p = then_ok (λ es. fault_map refused (steps_read columns es)) (known (few_elements 32 59 value)) ss is in
+    let p = then_ok (λ es. fault_map refused (steps_read columns es)) (known_value (few_elements 32 59 value)) ss is in
     let q = steps_of 0 columns p.0 ss (fault_ok refused (steps_read columns p.0) ss p.2) in
     (ap is_none q.0, ap (λ n. nat_le n 32) q.1 ∙ few_known 32 59 value p.0 p.1)
 
@@ -300,7 +300,7 @@ pub modes_count : {X Y : Type 0} (words : Table Y) (policies : List X) (value : 
     → modes_listed words policies value ≡ Ok modes → length modes ≡ length policies
 unfolding modes_listed
 modes_count words policies value modes is =
-    let p = then_ok (as_many policies) (known (list_read 44 (at_name words) value)) modes is in
+    let p = then_ok (as_many policies) (known_value (list_read 44 (at_name words) value)) modes is in
     cond_both (nat_eq (length p.0) (length policies)) (Ok p.0) (Err bad_count)
     (λ r. r ≡ Ok modes → length modes ≡ length policies)
     (λ same there. let e : p.0 ≡ modes = cc in ap length (sym e) ∙ eqb-true (length p.0) (length policies) same)
@@ -329,7 +329,7 @@ pub format_read_fits : (columns : List Column) (value : List ℕ) (f : Format) �
     → writes_columns f columns ≡ true
 unfolding format_read
 format_read_fits columns value f is =
-    let p = then_ok (λ g. unless_refused (write_refusal g columns) g) (known (at_name formats value)) f is in
+    let p = then_ok (λ g. unless_refused (write_refusal g columns) g) (known_value (at_name formats value)) f is in
     let q = unrefused (write_refusal p.0 columns) p.0 f p.2 in
     ap (λ g. writes_columns g columns) (sym q.1) ∙ ap is_none q.0
 
@@ -337,7 +337,7 @@ pub place_read_fits : (columns : List Column) (value : List ℕ) (s : PlaceSpec)
     → place_fits s columns ≡ true
 unfolding place_read
 place_read_fits columns value s is =
-    let p = then_ok (λ g. unless_refused (place_refusal g columns) g) (known (formed place_forms (words_of value))) s is
+    let p = then_ok (λ g. unless_refused (place_refusal g columns) g) (known_value (form_in place_forms (words_of value))) s is
     in
     let q = unrefused (place_refusal p.0 columns) p.0 s p.2 in
     ap (λ g. place_fits g columns) (sym q.1) ∙ ap is_none q.0

@@ -11,12 +11,12 @@ use Rattle.std.proofs.lemmas.List.Elements.{All-nil, All-cons, All-head, All-tai
 use Rattle.std.proofs.lemmas.List.Elements.{All-from_recursion, recursion_from_All}
 use Rattle.percent_encoding.specs.Percent.{percent_encode_byte, percent_decode}
 use Rattle.percent_encoding.proofs.PercentLemmas.{IsByte, IsEscapeByte, All-percent_encode_byte, All-percent_decode}
-use Rattle.gob_bytes.specs.Escapes.{is_letter, is_digit, is_plain, escaped, AreBytes}
+use Rattle.gob_bytes.specs.Escapes.{is_letter, is_digit, is_plain, escape_of, AreBytes}
 use Rattle.gob_bytes.proofs.Forms as forms
 use Rattle.gob_bytes.proofs.Tables.{same_name, name_itself}
 use Rattle.gob_meaning.specs.Steps.{piece_byte}
 use Rattle.gob_jobs.specs.Words.{both, only_if, is_empty, pieces}
-use Rattle.gob_jobs.specs.Pipelines.{Setting, is_key, IsSetting, setting_line, pipeline_text, unescaped}
+use Rattle.gob_jobs.specs.Pipelines.{Setting, is_key, IsSetting, setting_line, pipeline_text, unescaped_value}
 use Rattle.gob_jobs.specs.Pipelines.{setting_of_pieces, settings_of_lines, settings_in}
 use Rattle.gob_jobs.specs.Laws.{SettingsAreRead}
 use Rattle.gob_jobs.proofs.Results.{some_both, only_some}
@@ -105,13 +105,13 @@ encoded_byte b small = agree_below_at (λ c. list_all is_escaped_byte (percent_e
 plain_byte : (b : ℕ) → is_plain b ≡ true → list_all is_escaped_byte (b ∷ []) ≡ true
 plain_byte b is = rw is
 
-escaped_bytes : (value : List ℕ) → AreBytes value → list_all is_escaped_byte (escaped value) ≡ true
-unfolding escaped
+escaped_bytes : (value : List ℕ) → AreBytes value → list_all is_escaped_byte (escape_of value) ≡ true
+unfolding escape_of
 escaped_bytes [] small = refl
 escaped_bytes (b ∷ bs) small =
     let one = cond_both (is_plain b) (b ∷ []) (percent_encode_byte b) (λ x. list_all is_escaped_byte x ≡ true)
     (plain_byte b) (λ _. encoded_byte b (All-head IsByte b bs small)) in
-    list_all-append is_escaped_byte (cond (is_plain b) (b ∷ []) (percent_encode_byte b)) (escaped bs)
+    list_all-append is_escaped_byte (cond (is_plain b) (b ∷ []) (percent_encode_byte b)) (escape_of bs)
     ∙ and_from _ _ one (escaped_bytes bs (All-tail IsByte b bs small))
 
 plain_small : (b : ℕ) → is_plain b ≡ true → b < 256
@@ -120,11 +120,11 @@ plain_small b is = grind (arith, nat_tests)
 escape_small : (b : ℕ) → IsEscapeByte b → b < 256
 escape_small b is = omega arith
 
-all_small : (value : List ℕ) → AreBytes (escaped value)
-unfolding escaped
+all_small : (value : List ℕ) → AreBytes (escape_of value)
+unfolding escape_of
 all_small [] = All-nil IsByte
 all_small (b ∷ bs) =
-    All-append IsByte (cond (is_plain b) (b ∷ []) (percent_encode_byte b)) (escaped bs)
+    All-append IsByte (cond (is_plain b) (b ∷ []) (percent_encode_byte b)) (escape_of bs)
     (cond_both (is_plain b) (b ∷ []) (percent_encode_byte b) AreBytes
     (λ plain. All-cons IsByte b [] (plain_small b plain) (All-nil IsByte))
     (λ _. All-weaker IsEscapeByte IsByte escape_small (percent_encode_byte b) (All-percent_encode_byte b)))
@@ -134,56 +134,56 @@ all_small (b ∷ bs) =
 
 -- a line without its end
 abbrev pub line_body : Setting → List ℕ
-line_body s = s.0 ++ 61 ∷ escaped s.1
+line_body s = s.0 ++ 61 ∷ escape_of s.1
 
 body_free : (s : Setting) → IsSetting s.0 s.1 → IsFree (nat_eq 10) (line_body s)
 body_free s is =
     let key : IsFree (nat_eq 10) s.0 = all_other is_key_byte 10 s.0 refl (key_bytes s.0 is.keyed) in
-    let value : IsFree (nat_eq 10) (61 ∷ escaped s.1) = all_other is_escaped_byte 10 (escaped s.1) refl
+    let value : IsFree (nat_eq 10) (61 ∷ escape_of s.1) = all_other is_escaped_byte 10 (escape_of s.1) refl
     (escaped_bytes s.1 is.bytes) in
-    list_all-append (λ b. not (nat_eq 10 b)) s.0 (61 ∷ escaped s.1) ∙ and_from _ _ key value
+    list_all-append (λ b. not (nat_eq 10 b)) s.0 (61 ∷ escape_of s.1) ∙ and_from _ _ key value
 
-unescaped_again : (value : List ℕ) → AreBytes value → unescaped (escaped value) ≡ Some value
+unescaped_again : (value : List ℕ) → AreBytes value → unescaped_value (escape_of value) ≡ Some value
 unescaped_again value small =
     let e = forms.unescaped value small in
-    ap (λ v. cond (bytes_eq (escaped v) (escaped value)) (Some v) None) e
-    ∙ ap (λ v. cond v (Some value) None) (name_itself (escaped value))
+    ap (λ v. cond (bytes_eq (escape_of v) (escape_of value)) (Some v) None) e
+    ∙ ap (λ v. cond v (Some value) None) (name_itself (escape_of value))
 
 body_read : (s : Setting) → IsSetting s.0 s.1 → setting_of_pieces (pieces (nat_eq 61) (line_body s)) ≡ Some s
 body_read s is =
     let key : IsFree (nat_eq 61) s.0 = all_other is_key_byte 61 s.0 refl (key_bytes s.0 is.keyed) in
-    let value : IsFree (nat_eq 61) (escaped s.1) = all_other is_escaped_byte 61 (escaped s.1) refl
+    let value : IsFree (nat_eq 61) (escape_of s.1) = all_other is_escaped_byte 61 (escape_of s.1) refl
     (escaped_bytes s.1 is.bytes) in
-    let two : pieces (nat_eq 61) (line_body s) ≡ s.0 ∷ escaped s.1 ∷ [] =
-    pieces_at (nat_eq 61) s.0 61 (escaped s.1) key refl ∙ ap (λ ps. s.0 ∷ ps)
-    (pieces_free (nat_eq 61) (escaped s.1) value) in
+    let two : pieces (nat_eq 61) (line_body s) ≡ s.0 ∷ escape_of s.1 ∷ [] =
+    pieces_at (nat_eq 61) s.0 61 (escape_of s.1) key refl ∙ ap (λ ps. s.0 ∷ ps)
+    (pieces_free (nat_eq 61) (escape_of s.1) value) in
     ap setting_of_pieces two
-    ∙ (ap (λ o. both (λ k v. (k, v)) o (unescaped (escaped s.1))) (cond-true _ (Some s.0) None is.keyed)
+    ∙ (ap (λ o. both (λ k v. (k, v)) o (unescaped_value (escape_of s.1))) (cond-true _ (Some s.0) None is.keyed)
     ∙ ap (λ o. both (λ k v. (k, v)) (Some s.0) o) (unescaped_again s.1 is.bytes))
 
 setting_from : (ps : List (List ℕ)) (s : Setting) → setting_of_pieces ps ≡ Some s → IsSetting s.0 s.1
-    × (ps ≡ s.0 ∷ escaped s.1 ∷ [])
+    × (ps ≡ s.0 ∷ escape_of s.1 ∷ [])
 setting_from [] s is = cc
 setting_from (k ∷ []) s is = cc
 setting_from (k ∷ v ∷ []) s is =
-    let p = some_both (λ k v. (k, v)) (only_if is_key k) (unescaped v) s is in
+    let p = some_both (λ k v. (k, v)) (only_if is_key k) (unescaped_value v) s is in
     let q = only_some is_key k p.0 p.2 in
     let r = from_escaped v p.1 p.3 in
     let key : k ≡ s.0 = q.1 ∙ ap (λ (t : Setting). t.0) p.4 in
     let value : p.1 ≡ s.1 = ap (λ (t : Setting). t.1) p.4 in (
       record { keyed = ap is_key (sym key) ∙ q.0; bytes = subst AreBytes value r.0 },
-      ap (λ x. x ∷ v ∷ []) key ∙ ap (λ x. s.0 ∷ x ∷ []) (sym r.1 ∙ ap escaped value),
+      ap (λ x. x ∷ v ∷ []) key ∙ ap (λ x. s.0 ∷ x ∷ []) (sym r.1 ∙ ap escape_of value),
     )
   where
-    from_escaped : (text value : List ℕ) → unescaped text ≡ Some value → AreBytes value × (escaped value ≡ text)
+    from_escaped : (text value : List ℕ) → unescaped_value text ≡ Some value → AreBytes value × (escape_of value ≡ text)
     from_escaped text value =
-        cond_both (bytes_eq (escaped (percent_decode text)) text) (Some (percent_decode text)) None
-        (λ o. o ≡ Some value → AreBytes value × (escaped value ≡ text))
+        cond_both (bytes_eq (escape_of (percent_decode text)) text) (Some (percent_decode text)) None
+        (λ o. o ≡ Some value → AreBytes value × (escape_of value ≡ text))
         (λ same there.
         let e : percent_decode text ≡ value = cc in
-        let f : escaped (percent_decode text) ≡ text = same_name (escaped (percent_decode text)) text same in
+        let f : escape_of (percent_decode text) ≡ text = same_name (escape_of (percent_decode text)) text same in
         let small : AreBytes text = subst AreBytes f (all_small (percent_decode text)) in
-        (subst AreBytes e (All-percent_decode text small), ap escaped (sym e) ∙ f))
+        (subst AreBytes e (All-percent_decode text small), ap escape_of (sym e) ∙ f))
         (λ _ no. cc)
 setting_from (k ∷ v ∷ w ∷ ws) s is = cc
 

@@ -20,9 +20,9 @@ use Rattle.gob_plan.specs.declared.plan.TaskRule.TheVariants as rule
 use Rattle.gob_meaning.specs.Plans.{counter_fits, rule_fits}
 use Rattle.gob_jobs.specs.Words.{and_then, value_map, both, only_if, each_read, pieces, elements, few_elements}
 use Rattle.gob_jobs.specs.Words.{words_of, number_within}
-use Rattle.gob_jobs.specs.Elements.{Form, formed, unit_counters, branch_counters, branch_counter, counter_read}
+use Rattle.gob_jobs.specs.Elements.{Form, form_in, unit_counters, branch_counters, branch_counter, counter_read}
 use Rattle.gob_jobs.specs.Elements.{range_words, share_words, rule_is_right, rule_forms, rule_read}
-use Rattle.gob_jobs.specs.KeyTable.{Draft, RunRules, ValueFault, Reader, of_plan, of_runs, is_of_plan, known}
+use Rattle.gob_jobs.specs.KeyTable.{Draft, RunRules, ValueFault, Reader, of_plan, of_runs, is_of_plan, known_value}
 use Rattle.gob_jobs.specs.KeyTable.{into_rules, plan_word, plan_number, formats, truths, forks, source_columns}
 use Rattle.gob_jobs.specs.KeyTable.{shared_steps, with_format, with_header, with_fork, with_branches, run_word}
 use Rattle.gob_jobs.specs.KeyTable.{run_number, run_text, sources, commit_policies, commit_scopes, list_read}
@@ -32,7 +32,7 @@ use Rattle.gob_jobs.specs.KeyTable.{with_max_units, with_skip_errors, with_polic
 use Rattle.gob_jobs.specs.KeyTable.{with_schedule, with_scope, Row, tells_plan, first_rows, branch_rows, last_rows}
 use Rattle.gob_jobs.specs.Reading.{LookUp, Reading, read_value, read_row, read_rows, with_branch, read_branches}
 use Rattle.gob_jobs.specs.Reading.{read_table, nothing_read}
-use Rattle.gob_jobs.specs.Laws.{IsWithin}
+use Rattle.gob_jobs.specs.Laws.{IsBetween}
 use Rattle.gob_jobs.proofs.Results.{then_ok, map_ok, known_ok, some_then, some_map, some_both, only_some}
 use Rattle.gob_jobs.proofs.Rows.{with_draft, row_parts, TableParts, table_parts}
 use Rattle.gob_jobs.proofs.Fitting.{few_known, modes_count}
@@ -60,7 +60,7 @@ into_step : {X : Type 0} (P Q : ℕ → RunRules → Type 0) (read : Plan → Ru
 into_step P Q read put one r s v p is =
     let x = run_value read put r s v is in subst (Of Q) x.2 (one r.draft.plan r.rules v x.0 x.1 p)
 
-numbers : (low high n : ℕ) (text : List ℕ) → known (number_within low high text) ≡ Ok n → (low ≤ n) × (n ≤ high)
+numbers : (low high n : ℕ) (text : List ℕ) → known_value (number_within low high text) ≡ Ok n → (low ≤ n) × (n ≤ high)
 numbers low high n text is =
     let p = and_parts (nat_le low n) (nat_le n high) (within low high n text
     (known_ok (number_within low high text) n is)) in
@@ -70,12 +70,12 @@ number_step : (P Q : ℕ → RunRules → Type 0) (low high : ℕ) (put : ℕ �
     → ((b n : ℕ) (q : RunRules) → low ≤ n → n ≤ high → P b q → Q b (put n q))
     → Step (run_number low high put) (Of P) (Of Q)
 number_step P Q low high put one =
-    into_step P Q (λ plan rules value. known (number_within low high value)) put
+    into_step P Q (λ plan rules value. known_value (number_within low high value)) put
     (λ plan q v n is p. let h = numbers low high n v is in one plan.fork.branches n q h.0 h.1 p)
 
 word_step : {X : Type 0} (P : ℕ → RunRules → Type 0) (words : Table X) (put : X → RunRules → RunRules)
     → ((b : ℕ) (x : X) (q : RunRules) → P b q → P b (put x q)) → Step (run_word words put) (Of P) (Of P)
-word_step P words put one = into_step P P (λ plan rules value. known (at_name words value)) put
+word_step P words put one = into_step P P (λ plan rules value. known_value (at_name words value)) put
     (λ plan q v x is p. one plan.fork.branches x q p)
 
 text_step : (P : ℕ → RunRules → Type 0) (put : List ℕ → RunRules → RunRules)
@@ -96,13 +96,13 @@ stay_step P reader of r s v p is = subst P (rules_stay reader of r s v is) p
 -- ---- the first rows
 
 abbrev WithBytes : RunRules → Type 0
-WithBytes q = IsWithin 1 1073741824 q.limits.max_bytes
+WithBytes q = IsBetween 1 1073741824 q.limits.max_bytes
 
 abbrev WithUnits : RunRules → Type 0
-WithUnits q = WithBytes q × IsWithin 1 10000 q.limits.max_new_units
+WithUnits q = WithBytes q × IsBetween 1 10000 q.limits.max_new_units
 
 abbrev pub WithSkips : RunRules → Type 0
-WithSkips q = WithBytes q × IsWithin 1 10000 q.limits.max_new_units × (q.skip_errors ≤ 1000000000)
+WithSkips q = WithBytes q × IsBetween 1 10000 q.limits.max_new_units × (q.skip_errors ≤ 1000000000)
 
 Any : RunRules → Type 0
 Any q = Unit {0}
@@ -246,7 +246,7 @@ share_fits branches (c ∷ d ∷ n ∷ []) t is =
     ap (rule_fits branches) (sym q.4) ∙ and_from _ _ (counter_from branches c q.0 q.2) (counter_from branches d q.1 q.3)
 share_fits branches (c ∷ d ∷ n ∷ w ∷ ws) t is = cc
 
-formed_fits : (branches : ℕ) (words : List (List ℕ)) (t : TaskRule) → formed (rule_forms branches) words ≡ Some t
+formed_fits : (branches : ℕ) (words : List (List ℕ)) (t : TaskRule) → form_in (rule_forms branches) words ≡ Some t
     → rule_fits branches t ≡ true
 unfolding Rules
 formed_fits branches [] t is = cc
@@ -259,7 +259,7 @@ rule_from : (branches : ℕ) (element : List ℕ) (t : TaskRule) → rule_read b
     → rule_fits branches t ≡ true
 unfolding rule_read
 rule_from branches element t is =
-    let p = some_then (only_if rule_is_right) (formed (rule_forms branches) (words_of element)) t is in
+    let p = some_then (only_if rule_is_right) (form_in (rule_forms branches) (words_of element)) t is in
     let q = only_some rule_is_right p.0 t p.2 in
     ap (rule_fits branches) (sym q.1) ∙ formed_fits branches (words_of element) p.0 p.1
 
@@ -294,7 +294,7 @@ moded_rules branches (p ∷ ps) (m ∷ ms) same =
       ap suc later.1,
     )
 
-listed_rules : (branches : ℕ) (value : List ℕ) (rs : List TaskRule) → known (rules_listed branches value) ≡ Ok rs
+listed_rules : (branches : ℕ) (value : List ℕ) (rs : List TaskRule) → known_value (rules_listed branches value) ≡ Ok rs
     → (list_all (rule_fits branches) rs ≡ true) × (nat_le (length rs) 16 ≡ true)
 unfolding rules_listed
 listed_rules branches value rs is =
@@ -304,7 +304,7 @@ listed_rules branches value rs is =
     (q.0, ap (λ n. nat_le n 16) q.1 ∙ few_known 16 59 value p.0 (ap known' p.1))
   where
     known' : Option (List (List ℕ)) → Result (List (List ℕ)) ValueFault
-    known' o = known o
+    known' o = known_value o
 
 -- ---- the last rows
 
@@ -312,8 +312,8 @@ abbrev pub TasksFit : ℕ → RunRules → Type 0
 TasksFit b q = Skips q × (rules_fit b q.task_policies ≡ true) × (nat_le (length q.task_policies) 16 ≡ true)
 
 abbrev pub TurnsFit : RunRules → Type 0
-TurnsFit q = (q.max_retries ≤ 100) × IsWithin 1 64 q.turns.slots × IsWithin 1 1048576 q.turns.piece
-    × IsWithin 1 64 (length q.turns.schedule) × AllByRecursion (λ n. n ≤ 63) q.turns.schedule
+TurnsFit q = (q.max_retries ≤ 100) × IsBetween 1 64 q.turns.slots × IsBetween 1 1048576 q.turns.piece
+    × IsBetween 1 64 (length q.turns.schedule) × AllByRecursion (λ n. n ≤ 63) q.turns.schedule
 
 FirstKnown : ℕ → RunRules → Type 0
 FirstKnown b q = Skips q
@@ -325,10 +325,10 @@ Retries : ℕ → RunRules → Type 0
 Retries b q = TasksFit b q × (q.max_retries ≤ 100)
 
 Slots : ℕ → RunRules → Type 0
-Slots b q = TasksFit b q × (q.max_retries ≤ 100) × IsWithin 1 64 q.turns.slots
+Slots b q = TasksFit b q × (q.max_retries ≤ 100) × IsBetween 1 64 q.turns.slots
 
 Piece : ℕ → RunRules → Type 0
-Piece b q = TasksFit b q × (q.max_retries ≤ 100) × IsWithin 1 64 q.turns.slots × IsWithin 1 1048576 q.turns.piece
+Piece b q = TasksFit b q × (q.max_retries ≤ 100) × IsBetween 1 64 q.turns.slots × IsBetween 1 1048576 q.turns.piece
 
 pub LastKnown : ℕ → RunRules → Type 0
 LastKnown b q = TasksFit b q × TurnsFit q
@@ -336,7 +336,7 @@ LastKnown b q = TasksFit b q × TurnsFit q
 tasks_step : Step task_rules (Of FirstKnown) (Of Tasks)
 unfolding FirstKnown Tasks Skips
 tasks_step =
-    into_step FirstKnown Tasks (λ plan rules value. known (rules_listed plan.fork.branches value))
+    into_step FirstKnown Tasks (λ plan rules value. known_value (rules_listed plan.fork.branches value))
     (λ rs rules. record rules { task_policies = map strict_rule rs })
     (λ plan q v rs is p.
     let h = listed_rules plan.fork.branches v rs is in
@@ -359,7 +359,7 @@ each_number (x ∷ xs) ns is =
     let h = and_parts (nat_le 0 p.0) (nat_le p.0 63) (within 0 63 p.0 x p.2) in
     subst (AllByRecursion (λ n. n ≤ 63)) p.4 (leb-true p.0 63 h.1, each_number xs p.1 p.3)
 
-schedule_fits : (value : List ℕ) (ns : List ℕ) → schedule_read value ≡ Some ns → IsWithin 1 64 (length ns)
+schedule_fits : (value : List ℕ) (ns : List ℕ) → schedule_read value ≡ Some ns → IsBetween 1 64 (length ns)
     × AllByRecursion (λ n. n ≤ 63) ns
 unfolding schedule_read
 schedule_fits value ns is =
@@ -368,13 +368,13 @@ schedule_fits value ns is =
     let q = only_some passes p.0 ns p.2 in
     let h = and_parts (nat_le 1 (length p.0)) (nat_le (length p.0) 64) q.0 in
     let e = some_then (each_read (number_within 0 63)) (elements 44 value) p.0 p.1 in
-    subst (λ ms. IsWithin 1 64 (length ms) × AllByRecursion (λ n. n ≤ 63) ms) q.1
+    subst (λ ms. IsBetween 1 64 (length ms) × AllByRecursion (λ n. n ≤ 63) ms) q.1
     ((leb-true 1 (length p.0) h.0, leb-true (length p.0) 64 h.1), each_number e.0 p.0 e.2)
 
 schedule_step : Step schedule (Of Piece) (Of LastKnown)
 unfolding Piece LastKnown Skips
 schedule_step =
-    into_step Piece LastKnown (λ plan rules value. known (schedule_read value)) with_schedule
+    into_step Piece LastKnown (λ plan rules value. known_value (schedule_read value)) with_schedule
     (λ plan q v ns is p. let h = schedule_fits v ns (known_ok (schedule_read v) ns is) in
     (p.0, (p.1, p.2, p.3, h.0, h.1)))
 

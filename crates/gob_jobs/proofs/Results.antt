@@ -3,7 +3,7 @@ use Rattle.std.proofs.Common.{◌≡◌, ℕ, Bool, true, false, cond, List, [],
 use Rattle.std.proofs.Common.{sym, ap, ◌∙◌}
 use Rattle.std.specs.Option.{option_map, option_and_then, ok_or}
 use Rattle.gob_jobs.specs.Words.{and_then, value_map, fault_map, both, only_if, each_read, each_or_fault}
-use Rattle.gob_jobs.specs.KeyTable.{ValueFault, known, unless_refused}
+use Rattle.gob_jobs.specs.KeyTable.{ValueFault, known_value, unless_refused}
 use Rattle.gob_plan.specs.declared.steps.Refusal.{Refusal}
 
 pub then_ok : {A B E : Type 0} (f : A → Result B E) (r : Result A E) (y : B) → and_then f r ≡ Ok y → (x : A)
@@ -20,7 +20,7 @@ pub fault_ok : {A E F : Type 0} (f : E → F) (r : Result A E) (y : A) → fault
 fault_ok f (Ok x) y is = cc
 fault_ok f (Err e) y is = cc
 
-pub known_ok : {X : Type 0} (o : Option X) (y : X) → known o ≡ Ok y → o ≡ Some y
+pub known_ok : {X : Type 0} (o : Option X) (y : X) → known_value o ≡ Ok y → o ≡ Some y
 known_ok None y is = cc
 known_ok (Some x) y is = cc
 

@@ -16,7 +16,7 @@ use Rattle.gob_bytes.specs.Tables.{at_name}
 use Rattle.gob_meaning.specs.Steps.{first_refused, columns_through}
 use Rattle.gob_meaning.specs.Plans.{reads_columns, writes_columns, place_fits, branch_fits, branch_is_short}
 use Rattle.gob_jobs.specs.Words.{and_then, value_map, only_if, number_within}
-use Rattle.gob_jobs.specs.KeyTable.{Draft, ValueFault, Reader, known, into_plan, into_branch, formats, truths, forks}
+use Rattle.gob_jobs.specs.KeyTable.{Draft, ValueFault, Reader, known_value, into_plan, into_branch, formats, truths, forks}
 use Rattle.gob_jobs.specs.KeyTable.{row_modes, columns_read, source_columns, shared_columns, branch_columns}
 use Rattle.gob_jobs.specs.KeyTable.{steps_listed, tests_listed, shared_steps, fork_tests, branch_test, branch_steps}
 use Rattle.gob_jobs.specs.KeyTable.{strict_policy, row_policies, modes_listed, with_modes, row_policy_modes}
@@ -104,13 +104,13 @@ AfterFirst r = NoneYet r.draft.plan × StepsFit r.draft.plan × CountFits r.draf
 format_step : Step (plan_word formats with_format) Before Before
 unfolding Before
 format_step r s v p is =
-    let x = plan_value (λ plan value. known (at_name formats value)) with_format r s v is in
+    let x = plan_value (λ plan value. known_value (at_name formats value)) with_format r s v is in
     subst (λ (t : Reading). NoneYet t.draft.plan) x.2 p
 
 columns_step : Step source_columns Before WithColumns
 unfolding Before WithColumns
 columns_step r s v p is =
-    let x = plan_value (λ plan value. known (columns_read plan.format value))
+    let x = plan_value (λ plan value. known_value (columns_read plan.format value))
     (λ columns plan. record plan { columns = columns }) r s v is in
     let fit = columns_read_fit r.draft.plan.format v x.0 (known_ok (columns_read r.draft.plan.format v) x.0 x.1) in
     subst (λ (t : Reading). NoneYet t.draft.plan × ColumnsFit t.draft.plan) x.2 (p, fit)
@@ -118,7 +118,7 @@ columns_step r s v p is =
 header_step : Step (plan_word truths with_header) WithColumns WithColumns
 unfolding WithColumns
 header_step r s v p is =
-    let x = plan_value (λ plan value. known (at_name truths value)) with_header r s v is in
+    let x = plan_value (λ plan value. known_value (at_name truths value)) with_header r s v is in
     subst (λ (t : Reading). NoneYet t.draft.plan × ColumnsFit t.draft.plan) x.2 p
 
 steps_step : Step shared_steps WithColumns WithSteps
@@ -132,7 +132,7 @@ steps_step r s v p is =
 fork_step : Step (plan_word forks with_fork) WithSteps WithSteps
 unfolding WithSteps
 fork_step r s v p is =
-    let x = plan_value (λ plan value. known (at_name forks value)) with_fork r s v is in
+    let x = plan_value (λ plan value. known_value (at_name forks value)) with_fork r s v is in
     subst (λ (t : Reading). NoneYet t.draft.plan × StepsFit t.draft.plan) x.2 p
 
 pub within : (low high n : ℕ) (text : List ℕ) → number_within low high text ≡ Some n
@@ -146,7 +146,7 @@ within low high n text is =
 branches_step : Step (plan_number 1 8 with_branches) WithSteps AfterFirst
 unfolding WithSteps AfterFirst
 branches_step r s v p is =
-    let x = plan_value (λ plan value. known (number_within 1 8 value)) with_branches r s v is in
+    let x = plan_value (λ plan value. known_value (number_within 1 8 value)) with_branches r s v is in
     let fit = within 1 8 x.0 v (known_ok (number_within 1 8 v) x.0 x.1) in
     subst (λ (t : Reading). NoneYet t.draft.plan × StepsFit t.draft.plan
     × CountFits t.draft.plan.fork.branches t.draft.plan) x.2 (p.0, p.1, (fit, refl))

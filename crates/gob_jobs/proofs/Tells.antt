@@ -21,7 +21,7 @@ use Rattle.gob_plan.specs.declared.plan.ForkHow.{ForkHow}
 use Rattle.gob_plan.specs.declared.plan.ForkHow.TheVariants as fork_how
 use Rattle.gob_meaning.specs.Job.{Job}
 use Rattle.gob_meaning.specs.Plans.{IsFitting, has_tests_for, rule_fits, branch_fits, branch_is_short}
-use Rattle.gob_jobs.specs.Words.{trimmed, value_map}
+use Rattle.gob_jobs.specs.Words.{without_blanks, value_map}
 use Rattle.gob_jobs.specs.Pipelines.{Setting, is_key, IsSetting, IsPipeline, pipeline_text, settings_in, last_value}
 use Rattle.gob_jobs.specs.KeyTable.{Row, Draft, RunRules, shared_columns, tells_plan, first_rows, branch_rows}
 use Rattle.gob_jobs.specs.KeyTable.{last_rows}
@@ -54,11 +54,11 @@ unfolding last_rows
 no_last = refl
 
 fine_empty : IsFine []
-unfolding trimmed is_utf8 chars encode
+unfolding without_blanks is_utf8 chars encode
 fine_empty = record { plain = refl; utf8 = refl; bare = refl }
 
 fine_firsts : AllByRecursion HasFineDefault firsts
-unfolding first_rows trimmed is_utf8 chars encode
+unfolding first_rows without_blanks is_utf8 chars encode
 fine_firsts = (
   fine_empty,
   (
@@ -77,7 +77,7 @@ fine_firsts = (
 )
 
 fine_each : AllByRecursion HasFineDefault each
-unfolding branch_rows trimmed is_utf8 chars encode
+unfolding branch_rows without_blanks is_utf8 chars encode
 fine_each = (
   fine_empty,
   (

@@ -1,7 +1,7 @@
 -- What was trimmed stays as it is.
 use Rattle.std.proofs.Common.{◌≡◌, ℕ, Bool, true, false, cond, List, [], ◌∷◌, refl, sym, ap, ◌∙◌}
 use Rattle.std.proofs.lemmas.Bool.{true≢false}
-use Rattle.gob_jobs.specs.Words.{is_blank, without_front, before_text, without_end, trimmed}
+use Rattle.gob_jobs.specs.Words.{is_blank, without_front, before_text, without_end, without_blanks}
 
 -- the text is empty or begins with another byte than a blank
 Begins : List ℕ → Type 0
@@ -43,8 +43,8 @@ end_twice : (text : List ℕ) → without_end (without_end text) ≡ without_end
 end_twice [] = refl
 end_twice (b ∷ bs) = end_before b (without_end bs) (end_twice bs)
 
-pub trimmed_twice : (text : List ℕ) → trimmed (trimmed text) ≡ trimmed text
-unfolding trimmed
+pub trimmed_twice : (text : List ℕ) → without_blanks (without_blanks text) ≡ without_blanks text
+unfolding without_blanks
 trimmed_twice text =
     let begins = begins_end (without_front text) (begins_trimmed text) in
     ap without_end (begins_stays (without_end (without_front text)) begins) ∙ end_twice (without_front text)

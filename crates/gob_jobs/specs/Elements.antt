@@ -43,9 +43,9 @@ abbrev pub Form : Type 0 → Type 0
 Form X = List (List ℕ) → Option X
 
 -- what the first word's form reads of the words after it
-abbrev pub formed : {X : Type 0} → Table (Form X) → Form X
-formed forms [] = None
-formed forms (first ∷ more) = option_and_then (λ form. form more) (at_name forms first)
+abbrev pub form_in : {X : Type 0} → Table (Form X) → Form X
+form_in forms [] = None
+form_in forms (first ∷ more) = option_and_then (λ form. form more) (at_name forms first)
 
 -- a word that is a column name
 abbrev pub column_word : List ℕ → Option (List ℕ)
@@ -93,7 +93,7 @@ check_forms =
 abbrev pub check_words : Bool → Form TestSpec
 check_words negated (first ∷ column ∷ more) =
     both (λ name c. record { negated = negated; column = name; check = c }) (column_word column)
-    (formed check_forms (first ∷ more))
+    (form_in check_forms (first ∷ more))
 check_words negated _ = None
 
 -- a test as it is worded, with one `not` in front or none; a value to compare with is still a text
@@ -177,17 +177,17 @@ step_forms =
     ∷ []
 
 -- a step that these columns take
-abbrev pub accepted : List Column → StepSpec → Result StepSpec Refusal
-accepted columns s = value_map (λ after. s) (columns_after s columns)
+abbrev pub accepted_step : List Column → StepSpec → Result StepSpec Refusal
+accepted_step columns s = value_map (λ after. s) (columns_after s columns)
 
 -- a worded step over these columns
 abbrev pub step_over : List Column → StepSpec → Result StepSpec Refusal
 step_over columns (step.Where t) = value_map (λ read. step.Where read) (test_over columns t)
-step_over columns s = accepted columns s
+step_over columns s = accepted_step columns s
 
 -- the step that an element is
 unfoldable pub step_read : List Column → List ℕ → Result StepSpec Refusal
-step_read columns element = and_then (step_over columns) (ok_or (formed step_forms (words_of element)) BadValue)
+step_read columns element = and_then (step_over columns) (ok_or (form_in step_forms (words_of element)) BadValue)
 
 -- the steps that elements are, each on the columns behind those before it, or the first refusal
 unfoldable pub steps_read : List Column → List (List ℕ) → Result (List StepSpec) Refusal
@@ -257,4 +257,4 @@ rule_forms branches = (codes "range", range_words branches) ∷ (codes "share", 
 
 -- the task rule that an element is, where there are so many branches
 unfoldable pub rule_read : ℕ → List ℕ → Option TaskRule
-rule_read branches element = option_and_then (only_if rule_is_right) (formed (rule_forms branches) (words_of element))
+rule_read branches element = option_and_then (only_if rule_is_right) (form_in (rule_forms branches) (words_of element))

@@ -39,7 +39,7 @@ use Rattle.gob_meaning.specs.Steps.{columns_through}
 use Rattle.gob_meaning.specs.Plans.{write_refusal, place_refusal}
 use Rattle.gob_jobs.specs.Words.{and_then, value_map, fault_map, both, only_if, each_read, each_or_fault, is_empty}
 use Rattle.gob_jobs.specs.Words.{pieces, elements, few_elements, words_of, number_within}
-use Rattle.gob_jobs.specs.Elements.{Form, formed, column_word, kinds, place_forms, test_read, steps_read, rule_read}
+use Rattle.gob_jobs.specs.Elements.{Form, form_in, column_word, kinds, place_forms, test_read, steps_read, rule_read}
 
 -- ---- what is read
 
@@ -97,7 +97,7 @@ is_of_plan (of_plan read) = true
 is_of_plan (of_runs read) = false
 
 abbrev pub tells_plan : Row → Bool
-tells_plan row = is_of_plan row.reader
+tells_plan key_row = is_of_plan key_row.reader
 
 -- ---- where values go
 
@@ -150,8 +150,8 @@ with_branches n plan = record plan { fork = record plan.fork { branches = n } }
 -- ---- readers
 
 -- a value that isn't there is a bad value
-abbrev pub known : {X : Type 0} → Option X → Result X ValueFault
-known o = ok_or o (refused BadValue)
+abbrev pub known_value : {X : Type 0} → Option X → Result X ValueFault
+known_value o = ok_or o (refused BadValue)
 
 -- a value that is refused, if it is
 abbrev pub unless_refused : {X : Type 0} → Option Refusal → X → Result X ValueFault
@@ -173,17 +173,17 @@ into_rules read put = of_runs (λ plan rules value. value_map (λ x. put x rules
 
 -- one of these words
 abbrev pub plan_word : {X : Type 0} → Table X → (X → Plan → Plan) → Reader
-plan_word words put = into_plan (λ plan value. known (at_name words value)) put
+plan_word words put = into_plan (λ plan value. known_value (at_name words value)) put
 
 abbrev pub run_word : {X : Type 0} → Table X → (X → RunRules → RunRules) → Reader
-run_word words put = into_rules (λ plan rules value. known (at_name words value)) put
+run_word words put = into_rules (λ plan rules value. known_value (at_name words value)) put
 
 -- a number from low to high
 abbrev pub plan_number : ℕ → ℕ → (ℕ → Plan → Plan) → Reader
-plan_number low high put = into_plan (λ plan value. known (number_within low high value)) put
+plan_number low high put = into_plan (λ plan value. known_value (number_within low high value)) put
 
 abbrev pub run_number : ℕ → ℕ → (ℕ → RunRules → RunRules) → Reader
-run_number low high put = into_rules (λ plan rules value. known (number_within low high value)) put
+run_number low high put = into_rules (λ plan rules value. known_value (number_within low high value)) put
 
 -- any text
 abbrev pub run_text : (List ℕ → RunRules → RunRules) → Reader
@@ -248,7 +248,7 @@ columns_read format.Json value = columns_listed value
 
 -- the source's columns, by its format
 abbrev pub source_columns : Reader
-source_columns = into_plan (λ plan value. known (columns_read plan.format value))
+source_columns = into_plan (λ plan value. known_value (columns_read plan.format value))
     (λ columns plan. record plan { columns = columns })
 
 -- ---- steps and branches
@@ -264,12 +264,12 @@ branch_columns d = columns_through d.branch.steps (shared_columns d.plan)
 -- a list of at most 32 steps over these columns
 unfoldable pub steps_listed : List Column → List ℕ → Result (List StepSpec) ValueFault
 steps_listed columns value = and_then (λ es. fault_map refused (steps_read columns es))
-    (known (few_elements 32 59 value))
+    (known_value (few_elements 32 59 value))
 
 -- a list of at most 16 tests of these columns
 unfoldable pub tests_listed : List Column → List ℕ → Result (List TestSpec) ValueFault
 tests_listed columns value =
-    and_then (λ es. fault_map refused (each_or_fault (test_read columns) es)) (known (few_elements 16 59 value))
+    and_then (λ es. fault_map refused (each_or_fault (test_read columns) es)) (known_value (few_elements 16 59 value))
 
 abbrev pub shared_steps : Reader
 shared_steps = into_plan (λ plan value. steps_listed plan.columns value) (λ steps plan. record plan { steps = steps })
@@ -306,7 +306,7 @@ as_many policies modes = if nat_eq (length modes) (length policies) then Ok mode
 
 -- the modes of as many policies
 unfoldable pub modes_listed : {X Y : Type 0} → Table Y → List X → List ℕ → Result (List Y) ValueFault
-modes_listed words policies value = and_then (as_many policies) (known (list_read 44 (at_name words) value))
+modes_listed words policies value = and_then (as_many policies) (known_value (list_read 44 (at_name words) value))
 
 -- each policy with its mode
 abbrev pub with_modes : List Mode → List PolicySpec → List PolicySpec
@@ -319,7 +319,7 @@ row_policy_modes =
 
 -- the format of a branch with these columns
 unfoldable pub format_read : List Column → List ℕ → Result Format ValueFault
-format_read columns value = and_then (λ f. unless_refused (write_refusal f columns) f) (known (at_name formats value))
+format_read columns value = and_then (λ f. unless_refused (write_refusal f columns) f) (known_value (at_name formats value))
 
 abbrev pub branch_format : Reader
 branch_format = into_branch (λ d value. format_read (branch_columns d) value) (λ f branch. record branch { format = f })
@@ -327,7 +327,7 @@ branch_format = into_branch (λ d value. format_read (branch_columns d) value) (
 -- the place of a branch with these columns
 unfoldable pub place_read : List Column → List ℕ → Result PlaceSpec ValueFault
 place_read columns value = and_then (λ p. unless_refused (place_refusal p columns) p)
-    (known (formed place_forms (words_of value)))
+    (known_value (form_in place_forms (words_of value)))
 
 abbrev pub branch_place : Reader
 branch_place = into_branch (λ d value. place_read (branch_columns d) value) (λ p branch. record branch { place = p })
@@ -344,7 +344,7 @@ strict_rule r = record { rule = r; fails = true }
 
 abbrev pub task_rules : Reader
 task_rules =
-    into_rules (λ plan rules value. known (rules_listed plan.fork.branches value))
+    into_rules (λ plan rules value. known_value (rules_listed plan.fork.branches value))
     (λ rs rules. record rules { task_policies = map strict_rule rs })
 
 -- each task policy with its mode
@@ -365,13 +365,13 @@ schedule_read value =
     (list_read 44 (number_within 0 63) value)
 
 abbrev pub schedule : Reader
-schedule = into_rules (λ plan rules value. known (schedule_read value)) with_schedule
+schedule = into_rules (λ plan rules value. known_value (schedule_read value)) with_schedule
 
 -- ---- the table
 
 -- a row
-abbrev pub row : Standing → String → Need → Reader → Row
-row standing key need reader = record { key = codes key; standing = standing; need = need; reader = reader }
+abbrev pub key_row : Standing → String → Need → Reader → Row
+key_row standing key need reader = record { key = codes key; standing = standing; need = need; reader = reader }
 
 -- the value of an absent key
 abbrev pub or_else : String → Need
@@ -380,42 +380,42 @@ or_else text = else_is (codes text)
 -- the keys that are read first
 unfoldable pub first_rows : List Row
 first_rows =
-    row once "job.name" (or_else "") (run_text as_before)
-    ∷ row once "source.class" (or_else "files") (run_word sources as_before)
-    ∷ row once "source.prefix" (or_else "") (run_text with_prefix)
-    ∷ row once "source.format" needed (plan_word formats with_format)
-    ∷ row once "source.columns" needed_unless_lines source_columns
-    ∷ row once "source.skip.header" (or_else "false") (plan_word truths with_header)
-    ∷ row once "source.max.bytes.per.unit" (or_else "1048576") (run_number 1 1073741824 with_max_bytes)
-    ∷ row once "source.max.new.units" (or_else "1000") (run_number 1 10000 with_max_units)
-    ∷ row once "converter.classes" (or_else "") shared_steps
-    ∷ row once "task.skip.error.records" (or_else "0") (run_number 0 1000000000 with_skip_errors)
-    ∷ row once "fork.operator.class" (or_else "all") (plan_word forks with_fork)
-    ∷ row once "fork.branches" (or_else "1") (plan_number 1 8 with_branches)
+    key_row once "job.name" (or_else "") (run_text as_before)
+    ∷ key_row once "source.class" (or_else "files") (run_word sources as_before)
+    ∷ key_row once "source.prefix" (or_else "") (run_text with_prefix)
+    ∷ key_row once "source.format" needed (plan_word formats with_format)
+    ∷ key_row once "source.columns" needed_unless_lines source_columns
+    ∷ key_row once "source.skip.header" (or_else "false") (plan_word truths with_header)
+    ∷ key_row once "source.max.bytes.per.unit" (or_else "1048576") (run_number 1 1073741824 with_max_bytes)
+    ∷ key_row once "source.max.new.units" (or_else "1000") (run_number 1 10000 with_max_units)
+    ∷ key_row once "converter.classes" (or_else "") shared_steps
+    ∷ key_row once "task.skip.error.records" (or_else "0") (run_number 0 1000000000 with_skip_errors)
+    ∷ key_row once "fork.operator.class" (or_else "all") (plan_word forks with_fork)
+    ∷ key_row once "fork.branches" (or_else "1") (plan_number 1 8 with_branches)
     ∷ []
 
 -- those that are then read whole for each branch
 unfoldable pub branch_rows : List Row
 branch_rows =
-    row for_each_branch "fork.test" needed_unless_all branch_test
-    ∷ row for_each_branch "converter.classes" (or_else "") branch_steps
-    ∷ row for_each_branch_or_all "qualitychecker.row.policies" (or_else "") row_policies
-    ∷ row for_each_branch_or_all "qualitychecker.row.policy.types" (or_else "") row_policy_modes
-    ∷ row for_each_branch_or_all "writer.format" needed branch_format
-    ∷ row for_each_branch_or_all "writer.placer" (or_else "plain") branch_place
+    key_row for_each_branch "fork.test" needed_unless_all branch_test
+    ∷ key_row for_each_branch "converter.classes" (or_else "") branch_steps
+    ∷ key_row for_each_branch_or_all "qualitychecker.row.policies" (or_else "") row_policies
+    ∷ key_row for_each_branch_or_all "qualitychecker.row.policy.types" (or_else "") row_policy_modes
+    ∷ key_row for_each_branch_or_all "writer.format" needed branch_format
+    ∷ key_row for_each_branch_or_all "writer.placer" (or_else "plain") branch_place
     ∷ []
 
 -- those that are read last
 unfoldable pub last_rows : List Row
 last_rows =
-    row once "qualitychecker.task.policies" (or_else "") task_rules
-    ∷ row once "qualitychecker.task.policy.types" (or_else "") task_policy_modes
-    ∷ row once "job.commit.policy" (or_else "full") (run_word commit_policies with_policy)
-    ∷ row once "task.maxretries" (or_else "5") (run_number 0 100 with_retries)
-    ∷ row once "task.slots" (or_else "1") (run_number 1 64 with_slots)
-    ∷ row once "task.piece.bytes" (or_else "65536") (run_number 1 1048576 with_piece)
-    ∷ row once "task.schedule" (or_else "0") schedule
-    ∷ row once "job.commit.scope" (or_else "job") (run_word commit_scopes with_scope)
+    key_row once "qualitychecker.task.policies" (or_else "") task_rules
+    ∷ key_row once "qualitychecker.task.policy.types" (or_else "") task_policy_modes
+    ∷ key_row once "job.commit.policy" (or_else "full") (run_word commit_policies with_policy)
+    ∷ key_row once "task.maxretries" (or_else "5") (run_number 0 100 with_retries)
+    ∷ key_row once "task.slots" (or_else "1") (run_number 1 64 with_slots)
+    ∷ key_row once "task.piece.bytes" (or_else "65536") (run_number 1 1048576 with_piece)
+    ∷ key_row once "task.schedule" (or_else "0") schedule
+    ∷ key_row once "job.commit.scope" (or_else "job") (run_word commit_scopes with_scope)
     ∷ []
 
 -- all keys

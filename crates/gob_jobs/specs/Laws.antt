@@ -15,18 +15,18 @@ use Rattle.gob_jobs.specs.Plans.{TellsPlan, plan_of}
 -- ---- jobs
 
 -- from one number to another
-abbrev pub IsWithin : ℕ → ℕ → ℕ → Type 0
-IsWithin low high n = (low ≤ n) × (n ≤ high)
+abbrev pub IsBetween : ℕ → ℕ → ℕ → Type 0
+IsBetween low high n = (low ≤ n) × (n ≤ high)
 
 -- the numbers of a job lie in the ranges of their keys
 pub record IsInRanges (job : Job) : Type 0 where
-  pub max_bytes : IsWithin 1 1073741824 job.limits.max_bytes
-  pub max_new_units : IsWithin 1 10000 job.limits.max_new_units
+  pub max_bytes : IsBetween 1 1073741824 job.limits.max_bytes
+  pub max_new_units : IsBetween 1 10000 job.limits.max_new_units
   pub skip_errors : job.plan.skip_errors ≤ 1000000000
   pub max_retries : job.max_retries ≤ 100
-  pub slots : IsWithin 1 64 job.turns.slots
-  pub piece : IsWithin 1 1048576 job.turns.piece
-  pub turns : IsWithin 1 64 (length job.turns.schedule)
+  pub slots : IsBetween 1 64 job.turns.slots
+  pub piece : IsBetween 1 1048576 job.turns.piece
+  pub turns : IsBetween 1 64 (length job.turns.schedule)
   pub schedule : All (λ n. n ≤ 63) job.turns.schedule
 
 -- what is known of a job that was read: its plan fits, its numbers are in their ranges, and its pipeline text tells its

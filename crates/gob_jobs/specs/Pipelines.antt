@@ -6,7 +6,7 @@ use Rattle.std.specs.Option.{option_or}
 use Rattle.std.specs.List.{All, flat_map, list_all}
 use Rattle.std.specs.Str.{bytes_eq}
 use Rattle.percent_encoding.specs.Percent.{percent_decode}
-use Rattle.gob_bytes.specs.Escapes.{escaped, is_letter, is_digit}
+use Rattle.gob_bytes.specs.Escapes.{escape_of, is_letter, is_digit}
 use Rattle.gob_jobs.specs.Words.{both, only_if, is_empty, pieces}
 
 -- a key and its value
@@ -24,7 +24,7 @@ pub record IsSetting (key value : List ℕ) : Type 0 where
   pub bytes : All (λ b. b < 256) value
 
 abbrev pub setting_line : Setting → List ℕ
-setting_line s = s.0 ++ 61 ∷ escaped s.1 ++ 10 ∷ []
+setting_line s = s.0 ++ 61 ∷ escape_of s.1 ++ 10 ∷ []
 
 -- the text of settings
 abbrev pub pipeline_text : List Setting → List ℕ
@@ -37,12 +37,12 @@ IsPipeline text = (settings : List Setting) × All (λ s. IsSetting s.0 s.1) set
 -- ---- reading
 
 -- the value that is escaped so; bytes have one spelling
-abbrev pub unescaped : List ℕ → Option (List ℕ)
-unescaped text = if bytes_eq (escaped (percent_decode text)) text then Some (percent_decode text) else None
+abbrev pub unescaped_value : List ℕ → Option (List ℕ)
+unescaped_value text = if bytes_eq (escape_of (percent_decode text)) text then Some (percent_decode text) else None
 
 -- the setting of a line's two pieces, cut at `=`
 abbrev pub setting_of_pieces : List (List ℕ) → Option Setting
-setting_of_pieces (key ∷ value ∷ []) = both (λ k v. (k, v)) (only_if is_key key) (unescaped value)
+setting_of_pieces (key ∷ value ∷ []) = both (λ k v. (k, v)) (only_if is_key key) (unescaped_value value)
 setting_of_pieces _ = None
 
 -- the settings of lines, of which the last has no end and is empty

@@ -24,7 +24,7 @@ use Rattle.gob_props.specs.Properties.{properties_of}
 use Rattle.gob_props.specs.declared.fault.PropsFault.{PropsFault}
 use Rattle.gob_meaning.specs.Job.{Job, plain_job}
 use Rattle.gob_jobs.specs.Pipelines.{Setting, pipeline_text}
-use Rattle.gob_jobs.specs.Words.{and_then, value_map, fault_map, trimmed, number_within}
+use Rattle.gob_jobs.specs.Words.{and_then, value_map, fault_map, without_blanks, number_within}
 use Rattle.gob_jobs.specs.KeyTable.{Draft, RunRules, ValueFault, refused, bad_count, Reader, of_plan, of_runs, Standing}
 use Rattle.gob_jobs.specs.KeyTable.{once, for_each_branch, for_each_branch_or_all, Need, needed, else_is}
 use Rattle.gob_jobs.specs.KeyTable.{needed_unless_lines, needed_unless_all, Row, tells_plan, first_rows, branch_rows}
@@ -102,7 +102,7 @@ value_at key text =
 
 -- the value that stands at a key, if one does, without blanks at its ends; else that of an absent key
 abbrev pub value_found : List ℕ → Result (List ℕ) JobFault → Option (List ℕ) → Result (List ℕ) JobFault
-value_found key absent (Some value) = value_at key (trimmed value)
+value_found key absent (Some value) = value_at key (without_blanks value)
 value_found key absent None = absent
 
 -- the value of a row in a branch
@@ -194,7 +194,7 @@ default_text needed_unless_all = []
 
 -- the value that a row has in the pipeline text: the one that counts, or that of an absent key
 abbrev pub spelled_value : LookUp → Row → ℕ → List ℕ
-spelled_value look row b = unwrap_or (option_map trimmed (look (key_that_counts look row b))) (default_text row.need)
+spelled_value look row b = unwrap_or (option_map without_blanks (look (key_that_counts look row b))) (default_text row.need)
 
 -- a row's setting in a branch
 abbrev pub setting_of_row : LookUp → ℕ → Row → Setting
@@ -246,7 +246,7 @@ job_in_file name bytes = value_map (job_of name) (properties_of bytes)
 
 -- how many branches there are, one where no number is told
 abbrev pub branches_told : LookUp → ℕ
-branches_told look = unwrap_or (option_and_then (λ value. number_within 1 8 (trimmed value))
+branches_told look = unwrap_or (option_and_then (λ value. number_within 1 8 (without_blanks value))
     (look (codes "fork.branches"))) 1
 
 -- a row's keys, where there are so many branches

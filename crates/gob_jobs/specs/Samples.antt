@@ -15,6 +15,7 @@ use Rattle.gob_plan.specs.declared.checks.Check.{Check}
 use Rattle.gob_plan.specs.declared.checks.TestSpec.{TestSpec}
 use Rattle.gob_plan.specs.declared.plan.Plan.{Plan}
 use Rattle.gob_meaning.specs.Job.{Job}
+use Rattle.gob_meaning.specs.Samples.{column}
 use Rattle.gob_jobs.specs.Reading.{JobFault, job_of, job_in_file}
 
 -- each text of a table reads as the table says
@@ -25,17 +26,13 @@ AllRead read table = map (λ e. read (codes e.0)) table ≡ map (λ e. e.1) tabl
 abbrev pub AllAre : {A X : Type 0} → (A → X) → List (A × X) → Type 0
 AllAre f table = map (λ e. f e.0) table ≡ map (λ e. e.1) table
 
--- a column
-abbrev pub column : String → Kind → Column
-column name k = record { name = codes name; kind = k }
-
 -- a column of each kind: `b`, `i` and `t`
 abbrev pub one_of_each : List Column
 one_of_each = column "b" kind.Bool ∷ column "i" kind.Int ∷ column "t" kind.Text ∷ []
 
 -- a test of a column
-abbrev pub test : Bool → String → Check → TestSpec
-test negated name c = record { negated = negated; column = codes name; check = c }
+abbrev pub column_test : Bool → String → Check → TestSpec
+column_test negated name c = record { negated = negated; column = codes name; check = c }
 
 -- the fault of a job file, if it has one
 abbrev pub fault_in : List ℕ → Option JobFault
@@ -48,9 +45,9 @@ plan_in file = option_and_then (λ (job : Result Job JobFault).
     option_and_then (λ (j : Job). Some j.plan) (result_ok job)) (result_ok (job_in_file (codes "j") file))
 
 -- a key and its value
-abbrev pub is_at : String → String → List ℕ × List ℕ
-is_at key value = (codes key, codes value)
+abbrev pub key_value : String → String → List ℕ × List ℕ
+key_value key value = (codes key, codes value)
 
 -- the fault of these keys and values, if they have one
-abbrev pub fault_of : Table (List ℕ) → Option JobFault
-fault_of entries = result_err (job_of (codes "j") entries)
+abbrev pub job_fault_of : Table (List ℕ) → Option JobFault
+job_fault_of entries = result_err (job_of (codes "j") entries)

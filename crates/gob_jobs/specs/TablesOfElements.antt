@@ -26,16 +26,17 @@ use Rattle.gob_plan.specs.declared.plan.PlaceSpec.{PlaceSpec}
 use Rattle.gob_plan.specs.declared.plan.PlaceSpec.TheVariants as place
 use Rattle.gob_plan.specs.declared.plan.TaskRule.{TaskRule}
 use Rattle.gob_plan.specs.declared.plan.TaskRule.TheVariants as rule
-use Rattle.gob_jobs.specs.Words.{trimmed, elements, few_elements, words_of, value_word, number_within}
+use Rattle.gob_jobs.specs.Words.{without_blanks, elements, few_elements, words_of, value_word, number_within}
 use Rattle.gob_jobs.specs.Elements.{test_read, step_read, steps_read, rule_read}
 use Rattle.gob_jobs.specs.KeyTable.{ValueFault, refused, columns_read, format_read, place_read, schedule_read}
-use Rattle.gob_jobs.specs.Samples.{AllRead, AllAre, column, one_of_each, test}
+use Rattle.gob_meaning.specs.Samples.{column}
+use Rattle.gob_jobs.specs.Samples.{AllRead, AllAre, one_of_each, column_test}
 
 -- ---- words
 
 -- blanks are spaces and tabs alone
 abbrev pub TrimmedTexts : Type 0
-TrimmedTexts = AllRead trimmed (
+TrimmedTexts = AllRead without_blanks (
     ("", [])
     ∷ (" \t ", [])
     ∷ ("a", codes "a")
@@ -82,7 +83,7 @@ ValueWords = AllRead value_word (
 
 -- the test is read
 abbrev reads : String → Check → Result TestSpec Refusal
-reads name c = Ok (test false name c)
+reads name c = Ok (column_test false name c)
 
 -- the column isn't there
 abbrev absent : {X : Type 0} → String → Result X Refusal
@@ -161,8 +162,8 @@ TestWords = AllRead (test_read one_of_each) (
     ∷ ("like t", bad)
     ∷ ("bytes t 0", bad)
     ∷ ("bytes t 0 1 2", bad)
-    ∷ ("not null t", Ok (test true "t" check.Null))
-    ∷ ("not bytes t 0 1", Ok (test true "t" (check.Bytes 0 1)))
+    ∷ ("not null t", Ok (column_test true "t" check.Null))
+    ∷ ("not bytes t 0 1", Ok (column_test true "t" (check.Bytes 0 1)))
     ∷ ("not not null t", bad)
     ∷ ("null not", absent "not")
     ∷ ("null a/b", bad)
@@ -234,7 +235,7 @@ StepForms = AllRead (step_read one_of_each) (
     ∷ ("explode i \"\"", wrong "i")
     ∷ ("explode zz |", absent "zz")
     ∷ ("explode zz %ff", bad)
-    ∷ ("where not eq i 5", is (step.Where (test true "i" (check.Compare how.Eq (value.Int (pos 5))))))
+    ∷ ("where not eq i 5", is (step.Where (column_test true "i" (check.Compare how.Eq (value.Int (pos 5))))))
     ∷ ("where", bad)
     ∷ ("where eq i x", bad)
     ∷ ("where like i *", wrong "i")
@@ -376,16 +377,16 @@ Schedules = AllRead schedule_read (
 -- ---- how long lists may be
 
 -- the text, and so many more of it behind a separator
-abbrev pub listed : ℕ → String → String → List ℕ
-listed n separator text = codes text ++ repeat n (codes separator ++ codes text)
+abbrev pub repeated_text : ℕ → String → String → List ℕ
+repeated_text n separator text = codes text ++ repeat n (codes separator ++ codes text)
 
 -- 64 numbers and one more
 abbrev pub LongestSchedule : Type 0
-LongestSchedule = AllAre (λ n. option_map length (schedule_read (listed n "," "7"))) ((63, Some 64) ∷ (64, None) ∷ [])
+LongestSchedule = AllAre (λ n. option_map length (schedule_read (repeated_text n "," "7"))) ((63, Some 64) ∷ (64, None) ∷ [])
 
 -- as many elements as may stand, and one more
 abbrev pub LongestLists : Type 0
-LongestLists = AllAre (λ most. option_map length (few_elements most 59 (listed 2 ";" "x")))
+LongestLists = AllAre (λ most. option_map length (few_elements most 59 (repeated_text 2 ";" "x")))
     ((3, Some 3) ∷ (2, None) ∷ [])
 
 -- both ends of a range, and one past each
@@ -395,7 +396,7 @@ NumbersWithin = AllRead (number_within 2 4) (("1", None) ∷ ("2", Some 2) ∷ (
 
 -- all of these
 pub record ElementTables : Type 0 where
-  pub trimmed : TrimmedTexts
+  pub without_blanks : TrimmedTexts
   pub elements : ListElements
   pub words : ElementWords
   pub value_words : ValueWords

@@ -27,7 +27,8 @@ use Rattle.gob_meaning.specs.Job.{Job, plain_file, plain_job}
 use Rattle.gob_jobs.specs.KeyTable.{Row, first_rows, branch_rows, last_rows, key_table}
 use Rattle.gob_jobs.specs.Reading.{JobFault, missing, bad_value, bad_policy_count, no_column, bad_kind, interpolation}
 use Rattle.gob_jobs.specs.Reading.{own_key, job_of, job_in_file, unknown_keys, pipeline_of}
-use Rattle.gob_jobs.specs.Samples.{AllRead, AllAre, column, test, fault_in, fault_of, is_at}
+use Rattle.gob_meaning.specs.Samples.{column}
+use Rattle.gob_jobs.specs.Samples.{AllRead, AllAre, column_test, fault_in, job_fault_of, key_value}
 
 -- ---- jobs
 
@@ -41,43 +42,43 @@ PlainFile = job_in_file (codes "j1") plain_file ≡ Ok (Ok (record (plain_job (c
 -- a file with each key, for two branches
 abbrev pub full_entries : Table (List ℕ)
 full_entries =
-    is_at "job.name" "any ${"
-    ∷ is_at "source.class" "files"
-    ∷ is_at "source.prefix" " web/ "
-    ∷ is_at "source.format" "csv"
-    ∷ is_at "source.columns" "a:text,i:int"
-    ∷ is_at "source.skip.header" "true"
-    ∷ is_at "source.max.bytes.per.unit" "11"
-    ∷ is_at "source.max.new.units" "12"
-    ∷ is_at "converter.classes" "upper a; copy i n"
-    ∷ is_at "task.skip.error.records" "13"
-    ∷ is_at "fork.operator.class" "each"
-    ∷ is_at "fork.branches" "2"
-    ∷ is_at "fork.test.0" "null i"
-    ∷ is_at "converter.classes.0" "keep a"
-    ∷ is_at "qualitychecker.row.policies.0" "eq a x; null a; not null a"
-    ∷ is_at "qualitychecker.row.policy.types.0" "OPTIONAL,FAIL,ERR_FILE"
-    ∷ is_at "writer.format.0" "lines"
-    ∷ is_at "writer.placer.0" "plain"
-    ∷ is_at "fork.test.1" "not null n"
-    ∷ is_at "converter.classes.1" ""
-    ∷ is_at "qualitychecker.row.policies.1" "null n"
-    ∷ is_at "qualitychecker.row.policy.types.1" "FAIL"
-    ∷ is_at "writer.format.1" "json"
-    ∷ is_at "writer.placer.1" "day n"
-    ∷ is_at "qualitychecker.task.policies" "range records 1 2; share bad rows 5"
-    ∷ is_at "qualitychecker.task.policy.types" "OPTIONAL,FAIL"
-    ∷ is_at "job.commit.policy" "successful"
-    ∷ is_at "task.maxretries" "14"
-    ∷ is_at "task.slots" "15"
-    ∷ is_at "task.piece.bytes" "16"
-    ∷ is_at "task.schedule" "1,0"
-    ∷ is_at "job.commit.scope" "dataset"
+    key_value "job.name" "any ${"
+    ∷ key_value "source.class" "files"
+    ∷ key_value "source.prefix" " web/ "
+    ∷ key_value "source.format" "csv"
+    ∷ key_value "source.columns" "a:text,i:int"
+    ∷ key_value "source.skip.header" "true"
+    ∷ key_value "source.max.bytes.per.unit" "11"
+    ∷ key_value "source.max.new.units" "12"
+    ∷ key_value "converter.classes" "upper a; copy i n"
+    ∷ key_value "task.skip.error.records" "13"
+    ∷ key_value "fork.operator.class" "each"
+    ∷ key_value "fork.branches" "2"
+    ∷ key_value "fork.test.0" "null i"
+    ∷ key_value "converter.classes.0" "keep a"
+    ∷ key_value "qualitychecker.row.policies.0" "eq a x; null a; not null a"
+    ∷ key_value "qualitychecker.row.policy.types.0" "OPTIONAL,FAIL,ERR_FILE"
+    ∷ key_value "writer.format.0" "lines"
+    ∷ key_value "writer.placer.0" "plain"
+    ∷ key_value "fork.test.1" "not null n"
+    ∷ key_value "converter.classes.1" ""
+    ∷ key_value "qualitychecker.row.policies.1" "null n"
+    ∷ key_value "qualitychecker.row.policy.types.1" "FAIL"
+    ∷ key_value "writer.format.1" "json"
+    ∷ key_value "writer.placer.1" "day n"
+    ∷ key_value "qualitychecker.task.policies" "range records 1 2; share bad rows 5"
+    ∷ key_value "qualitychecker.task.policy.types" "OPTIONAL,FAIL"
+    ∷ key_value "job.commit.policy" "successful"
+    ∷ key_value "task.maxretries" "14"
+    ∷ key_value "task.slots" "15"
+    ∷ key_value "task.piece.bytes" "16"
+    ∷ key_value "task.schedule" "1,0"
+    ∷ key_value "job.commit.scope" "dataset"
     ∷ []
 
 -- the same without an interpolation
 abbrev pub each_entry : Table (List ℕ)
-each_entry = is_at "job.name" "any" ∷ drop 1 full_entries
+each_entry = key_value "job.name" "any" ∷ drop 1 full_entries
 
 -- its plan
 abbrev pub full_plan : Plan
@@ -90,19 +91,19 @@ full_plan = record {
   fork = record {
     how = fork_how.Each;
     branches = 2;
-    tests = test false "i" check.Null ∷ test true "n" check.Null ∷ [];
+    tests = column_test false "i" check.Null ∷ column_test true "n" check.Null ∷ [];
   };
   branches = record {
     steps = step.Keep (codes "a" ∷ []) ∷ [];
-    policies = record { test = test false "a" (check.Compare how.Eq (value.Text (codes "x"))); mode = mode.Optional }
-        ∷ record { test = test false "a" check.Null; mode = mode.Fail }
-        ∷ record { test = test true "a" check.Null; mode = mode.ErrFile }
+    policies = record { test = column_test false "a" (check.Compare how.Eq (value.Text (codes "x"))); mode = mode.Optional }
+        ∷ record { test = column_test false "a" check.Null; mode = mode.Fail }
+        ∷ record { test = column_test true "a" check.Null; mode = mode.ErrFile }
         ∷ [];
     format = format.Lines;
     place = place.Plain;
   } ∷ record {
     steps = [];
-    policies = record { test = test false "n" check.Null; mode = mode.Fail } ∷ [];
+    policies = record { test = column_test false "n" check.Null; mode = mode.Fail } ∷ [];
     format = format.Json;
     place = place.Day (codes "n");
   } ∷ [];
@@ -135,7 +136,7 @@ refused_entries = map (λ e. (e.0, codes "a ${b}")) full_entries
 
 -- where the first so many keys are right, the next one is refused; keys that count for no branch aren't read
 abbrev pub FirstFaults : Type 0
-FirstFaults = map (λ n. fault_of (take n each_entry ++ drop n refused_entries)) (range_with_len 0 33) ≡ map
+FirstFaults = map (λ n. job_fault_of (take n each_entry ++ drop n refused_entries)) (range_with_len 0 33) ≡ map
     (λ e. Some (interpolation e.0)) full_entries ++ None ∷ []
 
 -- each key that has to be there
@@ -187,7 +188,7 @@ EmptyValues = AllRead fault_in (
 
 -- whole lines, read and written, and this value at this key
 abbrev pub lines_with : List ℕ → List ℕ → Option JobFault
-lines_with key text = fault_of ((key, text) ∷ is_at "source.format" "lines" ∷ is_at "writer.format" "lines" ∷ [])
+lines_with key text = job_fault_of ((key, text) ∷ key_value "source.format" "lines" ∷ key_value "writer.format" "lines" ∷ [])
 
 -- the key takes the numbers from the first to the last, and none past them
 abbrev pub takes_from_to : String × ℕ × ℕ → List (Option JobFault)
@@ -252,7 +253,7 @@ Words = AllAre (λ (e : String × String). lines_with (codes e.0) (codes e.1)) (
 
 -- whole lines with these keys and values
 abbrev pub lines_and : Table (List ℕ) → Option JobFault
-lines_and entries = fault_of (is_at "source.format" "lines" ∷ is_at "writer.format" "lines" ∷ entries)
+lines_and entries = job_fault_of (key_value "source.format" "lines" ∷ key_value "writer.format" "lines" ∷ entries)
 
 -- so many of this text, between these separators
 abbrev pub so_many : ℕ → String → String → List ℕ
@@ -296,11 +297,11 @@ LongLists = AllAre lines_and (
 
 -- sixty-four columns, and one more
 abbrev pub ManyColumns : Type 0
-ManyColumns = AllAre (λ n. fault_of (is_at "source.format" "csv" ∷ (
+ManyColumns = AllAre (λ n. job_fault_of (key_value "source.format" "csv" ∷ (
   codes "source.columns",
   codes "c:int" ++ flat_map (λ i. codes ",c" ++ decimal i ++ codes ":int")
       (range_with_len 0 n),
-) ∷ is_at "writer.format" "csv" ∷ []))
+) ∷ key_value "writer.format" "csv" ∷ []))
     ((63, None) ∷ (64, Some (bad_value (codes "source.columns"))) ∷ [])
 
 -- ---- policies and branches
@@ -308,95 +309,95 @@ ManyColumns = AllAre (λ n. fault_of (is_at "source.format" "csv" ∷ (
 -- the number of modes, and which fault goes first
 abbrev pub Policies : Type 0
 Policies = AllAre lines_and ((
-  is_at "qualitychecker.row.policies" "null line" ∷ [],
+  key_value "qualitychecker.row.policies" "null line" ∷ [],
   Some
       (bad_policy_count (codes "qualitychecker.row.policy.types")),
 )
     ∷ (
-      is_at "qualitychecker.row.policies.0" "null line" ∷ [],
+      key_value "qualitychecker.row.policies.0" "null line" ∷ [],
       Some (bad_policy_count (codes "qualitychecker.row.policy.types")),
     )
     ∷ (
-      is_at "qualitychecker.row.policy.types.0" "FAIL" ∷ [],
+      key_value "qualitychecker.row.policy.types.0" "FAIL" ∷ [],
       Some (bad_policy_count (codes "qualitychecker.row.policy.types.0")),
     )
     ∷ (
-      is_at "qualitychecker.row.policies" "null line" ∷ is_at "qualitychecker.row.policy.types" "FAIL,OPTIONAL" ∷ [],
+      key_value "qualitychecker.row.policies" "null line" ∷ key_value "qualitychecker.row.policy.types" "FAIL,OPTIONAL" ∷ [],
       Some (bad_policy_count (codes "qualitychecker.row.policy.types")),
     )
     ∷ (
-      is_at "qualitychecker.row.policies" "null line" ∷ is_at "qualitychecker.row.policy.types" "FAIL,fail" ∷ [],
+      key_value "qualitychecker.row.policies" "null line" ∷ key_value "qualitychecker.row.policy.types" "FAIL,fail" ∷ [],
       Some (bad_value (codes "qualitychecker.row.policy.types")),
     )
     ∷ (
-      is_at "qualitychecker.row.policies" "null line; null zz" ∷ is_at "qualitychecker.row.policy.types" "fail" ∷ [],
+      key_value "qualitychecker.row.policies" "null line; null zz" ∷ key_value "qualitychecker.row.policy.types" "fail" ∷ [],
       Some (no_column (codes "qualitychecker.row.policies") (codes "zz")),
     )
     ∷ (
-      is_at "qualitychecker.row.policies" "null zz; null" ∷ [],
+      key_value "qualitychecker.row.policies" "null zz; null" ∷ [],
       Some (no_column (codes "qualitychecker.row.policies") (codes "zz")),
     )
-    ∷ (is_at "qualitychecker.row.policies" "null zz; ;" ∷ [], Some (bad_value (codes "qualitychecker.row.policies")))
+    ∷ (key_value "qualitychecker.row.policies" "null zz; ;" ∷ [], Some (bad_value (codes "qualitychecker.row.policies")))
     ∷ (
-      is_at "qualitychecker.task.policies" "range records 2 9; share bad records 0" ∷ is_at
+      key_value "qualitychecker.task.policies" "range records 2 9; share bad records 0" ∷ key_value
           "qualitychecker.task.policy.types" "FAIL,OPTIONAL" ∷ [],
       None,
     )
     ∷ (
-      is_at "qualitychecker.task.policies" "range records 2 9" ∷ [],
+      key_value "qualitychecker.task.policies" "range records 2 9" ∷ [],
       Some (bad_policy_count (codes "qualitychecker.task.policy.types")),
     )
     ∷ (
-      is_at "qualitychecker.task.policies" "range records 2 9" ∷ is_at "qualitychecker.task.policy.types" "ERR_FILE" ∷
+      key_value "qualitychecker.task.policies" "range records 2 9" ∷ key_value "qualitychecker.task.policy.types" "ERR_FILE" ∷
           [],
       Some (bad_value (codes "qualitychecker.task.policy.types")),
     )
     ∷ (
-      is_at "qualitychecker.task.policies" "range written.1 2 9" ∷ is_at "fork.branches" "1" ∷ [],
+      key_value "qualitychecker.task.policies" "range written.1 2 9" ∷ key_value "fork.branches" "1" ∷ [],
       Some (bad_value (codes "qualitychecker.task.policies")),
     )
     ∷ (
-      is_at "qualitychecker.task.policies" "range written.1 2 9" ∷ is_at "qualitychecker.task.policy.types" "FAIL" ∷
-          is_at "fork.branches" "2" ∷ [],
+      key_value "qualitychecker.task.policies" "range written.1 2 9" ∷ key_value "qualitychecker.task.policy.types" "FAIL" ∷
+          key_value "fork.branches" "2" ∷ [],
       None,
     )
     ∷ [])
 
 -- the key of a branch goes before that of all branches; only what counts is read
 abbrev pub BranchKeys : Type 0
-BranchKeys = AllAre fault_of (
-    (is_at "source.format" "lines" ∷ is_at "writer.format" "${x}" ∷ is_at "writer.format.0" "csv" ∷ [], None)
+BranchKeys = AllAre job_fault_of (
+    (key_value "source.format" "lines" ∷ key_value "writer.format" "${x}" ∷ key_value "writer.format.0" "csv" ∷ [], None)
     ∷ (
-      is_at "source.format" "lines" ∷ is_at "writer.format" "csv" ∷ is_at "writer.format.0" "${x}" ∷ [],
+      key_value "source.format" "lines" ∷ key_value "writer.format" "csv" ∷ key_value "writer.format.0" "${x}" ∷ [],
       Some (interpolation (codes "writer.format.0")),
     )
-    ∷ (is_at "source.format" "lines" ∷ is_at "writer.format" "csv" ∷ is_at "writer.format.1" "${x}" ∷ [], None)
+    ∷ (key_value "source.format" "lines" ∷ key_value "writer.format" "csv" ∷ key_value "writer.format.1" "${x}" ∷ [], None)
     ∷ (
-      is_at "source.format" "lines" ∷ is_at "writer.format" "xml" ∷ is_at "fork.branches" "2" ∷ is_at "writer.format.0"
+      key_value "source.format" "lines" ∷ key_value "writer.format" "xml" ∷ key_value "fork.branches" "2" ∷ key_value "writer.format.0"
           "csv" ∷ [],
       Some (bad_value (codes "writer.format")),
     )
     ∷ (
-      is_at "source.format" "lines" ∷ is_at "writer.format" "csv" ∷ is_at "fork.test" "${x}" ∷ is_at "job.title" "${x}"
+      key_value "source.format" "lines" ∷ key_value "writer.format" "csv" ∷ key_value "fork.test" "${x}" ∷ key_value "job.title" "${x}"
           ∷ [],
       None,
     )
     ∷ (
-      is_at "source.format" "lines" ∷ is_at "writer.format" "csv" ∷ is_at "writer.placer" "day line" ∷ [],
+      key_value "source.format" "lines" ∷ key_value "writer.format" "csv" ∷ key_value "writer.placer" "day line" ∷ [],
       Some (bad_kind (codes "writer.placer") (codes "line")),
     )
     ∷ (
-      is_at "source.format" "lines" ∷ is_at "writer.format" "csv" ∷ is_at "converter.classes" "cast line int" ∷ is_at
-          "converter.classes.0" "rename line n" ∷ is_at "writer.placer.0" "day n" ∷ [],
+      key_value "source.format" "lines" ∷ key_value "writer.format" "csv" ∷ key_value "converter.classes" "cast line int" ∷ key_value
+          "converter.classes.0" "rename line n" ∷ key_value "writer.placer.0" "day n" ∷ [],
       None,
     )
     ∷ (
-      is_at "source.format" "lines" ∷ is_at "writer.format" "csv" ∷ is_at "converter.classes" "rename line n" ∷ is_at
-          "fork.operator.class" "each" ∷ is_at "fork.test.0" "null line" ∷ [],
+      key_value "source.format" "lines" ∷ key_value "writer.format" "csv" ∷ key_value "converter.classes" "rename line n" ∷ key_value
+          "fork.operator.class" "each" ∷ key_value "fork.test.0" "null line" ∷ [],
       Some (no_column (codes "fork.test.0") (codes "line")),
     )
     ∷ (
-      is_at "source.format" "lines" ∷ is_at "writer.format" "lines" ∷ is_at "converter.classes.0" "copy line n" ∷ [],
+      key_value "source.format" "lines" ∷ key_value "writer.format" "lines" ∷ key_value "converter.classes.0" "copy line n" ∷ [],
       Some (bad_kind (codes "writer.format") (codes "n")),
     )
     ∷ [])
@@ -418,8 +419,8 @@ Interpolations = AllRead (lines_with (codes "source.prefix")) (
 abbrev pub UnknownKeys : Type 0
 UnknownKeys = let keys : Table (List ℕ) = map (λ row. (row.key, [])) key_table
     ++ map (λ row. (row.key ++ codes ".0", [])) branch_rows ++ map (λ row. (row.key ++ codes ".1", [])) branch_rows
-    ++ is_at "writer.format.00" "" ∷ is_at "writer.format." "" ∷ is_at "task.slots.0" "" ∷ is_at
-    "data.publisher.final.dir" "" ∷ is_at "" "" ∷ is_at "writer.format.2" "" ∷ [] in
+    ++ key_value "writer.format.00" "" ∷ key_value "writer.format." "" ∷ key_value "task.slots.0" "" ∷ key_value
+    "data.publisher.final.dir" "" ∷ key_value "" "" ∷ key_value "writer.format.2" "" ∷ [] in
     AllAre (λ (branches : Table (List ℕ)). unknown_keys (branches ++ keys)) ((
       [],
       codes "fork.test" ∷ map (λ row. row.key ++ codes ".1") branch_rows
@@ -427,23 +428,23 @@ UnknownKeys = let keys : Table (List ℕ) = map (λ row. (row.key, [])) key_tabl
           [] ∷ codes "writer.format.2" ∷ [],
     )
     ∷ (
-      is_at "fork.branches" " 2 " ∷ [],
+      key_value "fork.branches" " 2 " ∷ [],
       codes "fork.test" ∷ codes "writer.format.00" ∷ codes "writer.format." ∷ codes
           "task.slots.0" ∷ codes "data.publisher.final.dir" ∷ [] ∷ codes "writer.format.2" ∷ [],
     )
     ∷ (
-      is_at "fork.branches" "8" ∷ [],
+      key_value "fork.branches" "8" ∷ [],
       codes "fork.test" ∷ codes "writer.format.00" ∷ codes "writer.format." ∷ codes
           "task.slots.0" ∷ codes "data.publisher.final.dir" ∷ [] ∷ [],
     )
     ∷ (
-      is_at "fork.branches" "9" ∷ [],
+      key_value "fork.branches" "9" ∷ [],
       codes "fork.test" ∷ map (λ row. row.key ++ codes ".1") branch_rows
           ++ codes "writer.format.00" ∷ codes "writer.format." ∷ codes "task.slots.0" ∷ codes "data.publisher.final.dir" ∷
           [] ∷ codes "writer.format.2" ∷ [],
     )
     ∷ (
-      is_at "fork.branches" "0" ∷ [],
+      key_value "fork.branches" "0" ∷ [],
       codes "fork.test" ∷ map (λ row. row.key ++ codes ".1") branch_rows
           ++ codes "writer.format.00" ∷ codes "writer.format." ∷ codes "task.slots.0" ∷ codes "data.publisher.final.dir" ∷
           [] ∷ codes "writer.format.2" ∷ [],

@@ -31,7 +31,8 @@ use Rattle.gob_jobs.specs.Pipelines.{settings_in}
 use Rattle.gob_jobs.specs.Reading.{JobFault, missing, bad_value, bad_policy_count, no_column, bad_kind, interpolation}
 use Rattle.gob_jobs.specs.Reading.{job_of, job_in_file, unknown_keys}
 use Rattle.gob_jobs.specs.Plans.{plan_of}
-use Rattle.gob_jobs.specs.Samples.{AllRead, AllAre, column, test, fault_in, plan_in, is_at}
+use Rattle.gob_meaning.specs.Samples.{column}
+use Rattle.gob_jobs.specs.Samples.{AllRead, AllAre, column_test, fault_in, plan_in, key_value}
 use Rattle.gob_jobs.specs.TablesOfKeys.{full_plan, full_pipeline, each_entry}
 use Rattle.gob_meaning.specs.Plans.{without_rules}
 
@@ -42,7 +43,7 @@ abbrev pub PipelineLines : Type 0
 PipelineLines = AllRead settings_in (
     ("", Some [])
     ∷ ("a.B9=x%20y\n=\n", None)
-    ∷ ("a.B9=x%20y\nb=\n", Some (is_at "a.B9" "x y" ∷ is_at "b" "" ∷ []))
+    ∷ ("a.B9=x%20y\nb=\n", Some (key_value "a.B9" "x y" ∷ key_value "b" "" ∷ []))
     ∷ ("a=%FF\n", Some ((codes "a", 255 ∷ []) ∷ []))
     ∷ ("a=x", None)
     ∷ ("a=x\n\n", None)
@@ -196,12 +197,12 @@ WebTier = job_in_file (codes "clicks") web_tier ≡ Ok (Ok (record {
     fork = record {
       how = fork_how.First;
       branches = 2;
-      tests = test false "status" (check.Compare how.Ge (value.Int (pos 400))) ∷ test true "status" check.Null ∷ [];
+      tests = column_test false "status" (check.Compare how.Ge (value.Int (pos 400))) ∷ column_test true "status" check.Null ∷ [];
     };
     branches = record {
       steps = step.Keep (codes "status" ∷ codes "path" ∷ []) ∷ [];
       policies = record {
-        test = test false "status" (check.Compare how.Lt (value.Int (pos 500)));
+        column_test = column_test false "status" (check.Compare how.Lt (value.Int (pos 500)));
         mode =
             mode.Optional;
       } ∷ [];
@@ -226,22 +227,22 @@ WebTierUnknown = option_map unknown_keys (result_ok (properties_of web_tier)) �
 -- scores into two formats, in turns of three
 abbrev pub Scores : Type 0
 Scores = option_map {U = Plan × TurnRules} (λ (j : Job). (j.plan, j.turns)) (result_ok (job_of (codes "drill") (
-    is_at "source.format" "csv"
-    ∷ is_at "source.columns" "id:int,score:int,tags:text"
-    ∷ is_at "source.max.bytes.per.unit" "4096"
-    ∷ is_at "converter.classes" "explode tags |"
-    ∷ is_at "fork.operator.class" "first"
-    ∷ is_at "fork.branches" "2"
-    ∷ is_at "fork.test.0" "ge score 5"
-    ∷ is_at "fork.test.1" "not null id"
-    ∷ is_at "qualitychecker.row.policies.0" "not eq score 9"
-    ∷ is_at "qualitychecker.row.policy.types.0" "ERR_FILE"
-    ∷ is_at "writer.format.0" "csv"
-    ∷ is_at "writer.format.1" "json"
-    ∷ is_at "job.commit.policy" "successful"
-    ∷ is_at "task.slots" "3"
-    ∷ is_at "task.schedule" "2,0,1"
-    ∷ is_at "task.piece.bytes" "64"
+    key_value "source.format" "csv"
+    ∷ key_value "source.columns" "id:int,score:int,tags:text"
+    ∷ key_value "source.max.bytes.per.unit" "4096"
+    ∷ key_value "converter.classes" "explode tags |"
+    ∷ key_value "fork.operator.class" "first"
+    ∷ key_value "fork.branches" "2"
+    ∷ key_value "fork.test.0" "ge score 5"
+    ∷ key_value "fork.test.1" "not null id"
+    ∷ key_value "qualitychecker.row.policies.0" "not eq score 9"
+    ∷ key_value "qualitychecker.row.policy.types.0" "ERR_FILE"
+    ∷ key_value "writer.format.0" "csv"
+    ∷ key_value "writer.format.1" "json"
+    ∷ key_value "job.commit.policy" "successful"
+    ∷ key_value "task.slots" "3"
+    ∷ key_value "task.schedule" "2,0,1"
+    ∷ key_value "task.piece.bytes" "64"
     ∷ [])))
     ≡ Some (
       record {
@@ -253,11 +254,11 @@ Scores = option_map {U = Plan × TurnRules} (λ (j : Job). (j.plan, j.turns)) (r
         fork = record {
           how = fork_how.First;
           branches = 2;
-          tests = test false "score" (check.Compare how.Ge (value.Int (pos 5))) ∷ test true "id" check.Null ∷ [];
+          tests = column_test false "score" (check.Compare how.Ge (value.Int (pos 5))) ∷ column_test true "id" check.Null ∷ [];
         };
         branches = record {
           steps = [];
-          policies = record { test = test true "score" (check.Compare how.Eq (value.Int (pos 9))); mode = mode.ErrFile }
+          policies = record { test = column_test true "score" (check.Compare how.Eq (value.Int (pos 9))); mode = mode.ErrFile }
               ∷ [];
           format = format.Csv;
           place = place.Plain;

@@ -71,8 +71,8 @@ without_end [] = []
 without_end (b ∷ bs) = before_text b (without_end bs)
 
 -- a text without blanks at either end
-unfoldable pub trimmed : List ℕ → List ℕ
-trimmed text = without_end (without_front text)
+unfoldable pub without_blanks : List ℕ → List ℕ
+without_blanks text = without_end (without_front text)
 
 -- ---- elements and words
 
@@ -89,7 +89,7 @@ is_empty (x ∷ xs) = false
 unfoldable pub elements : ℕ → List ℕ → Option (List (List ℕ))
 elements separator [] = Some []
 elements separator (b ∷ bs) = only_if (λ es. not (list_any is_empty es))
-    (map trimmed (pieces (nat_eq separator) (b ∷ bs)))
+    (map without_blanks (pieces (nat_eq separator) (b ∷ bs)))
 
 -- the elements, where they are at most so many
 abbrev pub few_elements : ℕ → ℕ → List ℕ → Option (List (List ℕ))

@@ -9,7 +9,7 @@ use Rattle.gob_plan.specs.declared.units.BranchCounts.{BranchCounts}
 use Rattle.gob_plan.specs.declared.units.Counts.{Counts}
 use Rattle.gob_meaning.specs.Results.{Verdict}
 use Rattle.gob_ledger.specs.Next.{allows, is_good}
-use Rattle.gob_ledger.specs.State.{no_branch}
+use Rattle.gob_ledger.specs.State.{no_branch_counts}
 use Rattle.gob_judge.specs.declared.task.TaskVerdict.{TaskVerdict}
 use Rattle.gob_judge.specs.declared.task.TaskVerdict.TheVariants.{Good, Bad}
 
@@ -20,7 +20,7 @@ failed_policy (Bad index) = Some index
 
 -- the counts of a branch, nothing for one that isn't there
 abbrev pub branch_counted : ℕ → Counts → BranchCounts
-branch_counted b counts = unwrap_or (slice_get counts.branches b) no_branch
+branch_counted b counts = unwrap_or (slice_get counts.branches b) no_branch_counts
 
 -- whether the policy lets a unit be committed, by who of its group is good and whether it is
 abbrev pub is_allowed : CommitPolicy → List Bool → Bool → Bool

@@ -12,7 +12,7 @@ use Rattle.gob_device.specs.Supply.{Held, Pull}
 use Rattle.gob_plan.specs.declared.units.Unit.{Unit as WorkUnit}
 use Rattle.gob_meaning.specs.Job.{Job}
 use Rattle.gob_ledger.specs.Turns.{TakenTurn, gave_up, member, turns_of}
-use Rattle.gob_ledger.specs.Counted.{AreScheduled, ListedUnit, failures_of, has_ended, has_failed, listed_units}
+use Rattle.gob_ledger.specs.Counted.{AreScheduled, ListedUnit, failure_count, has_ended, has_failed, listed_units}
 use Rattle.gob_ledger.specs.Counted.{next_turn, attempt_pulls, turn_behind, units_left, whose_turn}
 use Rattle.gob_ledger.specs.TurnLaws.{HaveBytes, UnitsPullTheirOwn, OnlyListedHaveTurns}
 use Rattle.gob_ledger.proofs.Members.{none_in, first_in, later_in, in_cases, filter_in, map_in}
@@ -124,8 +124,8 @@ front_stays job us failing u order there before t turn front =
 
 -- the unit is given up exactly where it has failed as often as it may and once more, and never fails again
 record Failed (retries : ℕ) (i : ℕ) (ts : List TakenTurn) : Type 0 where
-  most : failures_of i ts ≤ retries + 1
-  given_up : gave_up ts i ≡ nat_eq (failures_of i ts) (retries + 1)
+  most : failure_count i ts ≤ retries + 1
+  given_up : gave_up ts i ≡ nat_eq (failure_count i ts) (retries + 1)
 
 gave_up_more : (before : List TakenTurn) (t : TakenTurn) (i : ℕ) → gave_up (before ++ t ∷ []) i
     ≡ (gave_up before i || (t.gave_up && nat_eq t.unit i))
@@ -150,11 +150,11 @@ one_more_failure : (retries : ℕ) (fails : Bool) (before : List TakenTurn) (t :
     → Failed retries u.unit before → Failed retries u.unit (before ++ t ∷ [])
 one_more_failure retries true before t u is left known =
     let unit : t.unit ≡ u.unit = ap (λ (x : TakenTurn). x.unit) (sym is) in
-    let f : ℕ = failures_of u.unit before in
+    let f : ℕ = failure_count u.unit before in
     let ended : t.gave_up ≡ nat_eq f retries = ap (λ (x : TakenTurn). x.gave_up) (sym is) in
     let failed : has_failed t ≡ true = ap has_failed (sym is) in
     let may : f ≤ retries = left.may in
-    let more : failures_of u.unit (before ++ t ∷ [])
+    let more : failure_count u.unit (before ++ t ∷ [])
     ≡ f + 1 = failures_more before t u.unit unit ∙ ap (λ b. f + cond b 1 0) failed in
     record {
       most = omega arith;
@@ -171,14 +171,14 @@ one_more_failure retries true before t u is left known =
     and_true false = refl
 one_more_failure retries false before t u is left known =
     let unit : t.unit ≡ u.unit = ap (λ (x : TakenTurn). x.unit) (sym is) in
-    let f : ℕ = failures_of u.unit before in
+    let f : ℕ = failure_count u.unit before in
     let n : ℕ = length (attempt_pulls u.unit before) in
     let d : Pull = record { part = []; at = 0; len = 0 } in
     let ended : t.gave_up ≡ false = ap (λ (x : TakenTurn). x.gave_up) (sym is) in
     let inside : n < length u.own = left.more in
     let passed : has_failed t
     ≡ false = ap has_failed (sym is) ∙ ap (λ o. not (is_some o)) (slice_get-get_or u.own n d inside) in
-    let same : failures_of u.unit (before ++ t ∷ [])
+    let same : failure_count u.unit (before ++ t ∷ [])
     ≡ f = failures_more before t u.unit unit ∙
     (ap (λ b. f + cond b 1 0) passed ∙ (let none : f + 0 ≡ f = omega arith in none)) in
     record {
@@ -207,7 +207,7 @@ failed_stays job us failing i before t turn known =
       given_up =
           gave_up_more before t i
           ∙ ((λ j. known.given_up j || (t.gave_up && ne_eqb t.unit i other j))
-          ∙ (and_none (nat_eq (failures_of i before) (job.max_retries + 1)) t.gave_up ∙ ap
+          ∙ (and_none (nat_eq (failure_count i before) (job.max_retries + 1)) t.gave_up ∙ ap
           (λ n. nat_eq n (job.max_retries + 1)) (sym (failures_other before t i other))));
     })
     (cases_eq turn.unit.unit i)
@@ -219,9 +219,9 @@ failed_stays job us failing i before t turn known =
 
 pub failed_at_end : (job : Job) (held : Held) (units : List WorkUnit) (failing : List ℕ) → 0 < job.turns.slots
     → HaveBytes units → (i : ℕ)
-    → (failures_of i (turns_of job held units failing) ≤ job.max_retries + 1)
+    → (failure_count i (turns_of job held units failing) ≤ job.max_retries + 1)
     × (gave_up (turns_of job held units failing) i
-    ≡ nat_eq (failures_of i (turns_of job held units failing)) (job.max_retries + 1))
+    ≡ nat_eq (failure_count i (turns_of job held units failing)) (job.max_retries + 1))
 failed_at_end job held units failing some bytes i =
     let us : List ListedUnit = listed_units job held units in
     let turns : List TakenTurn = turns_of job held units failing in
@@ -276,7 +276,7 @@ units_pull job held units failing i w some bytes at listed =
       all = λ kept.
           let front = at_end (IsFront u) turns fronts in
           let known = failed_at_end job held units failing some bytes i in
-          let few : failures_of i turns ≤ job.max_retries = not_yet (failures_of i turns) job.max_retries known.0
+          let few : failure_count i turns ≤ job.max_retries = not_yet (failure_count i turns) job.max_retries known.0
           (sym known.1 ∙ kept) in
           let ended : has_ended job.max_retries turns u ≡ true = left_none turns us u there come.all in
           whole u turns job.max_retries front ended few;
@@ -299,15 +299,15 @@ units_pull job held units failing i w some bytes at listed =
         ] refl
 
     whole : (u : ListedUnit) (ts : List TakenTurn) (r : ℕ) → IsFront u ts → has_ended r ts u ≡ true
-        → failures_of u.unit ts ≤ r → attempt_pulls u.unit ts ≡ u.own
+        → failure_count u.unit ts ≤ r → attempt_pulls u.unit ts ≡ u.own
     whole u ts r ([], front) ended few = sym (front ∙ append-nil (attempt_pulls u.unit ts))
     whole u ts r (p ∷ rest, front) ended few = ⊎_elim
         (λ e. absurd
         (let all : length u.own ≤ length
         (attempt_pulls u.unit ts) = leb-true _ _ e in let long = ap length front ∙ length-append
         (attempt_pulls u.unit ts) (p ∷ rest) in omega arith))
-        (λ e. absurd (let over : r < failures_of u.unit ts = ltb-true _ _ e in omega arith))
-        (or_cases (nat_le (length u.own) (length (attempt_pulls u.unit ts))) (nat_lt r (failures_of u.unit ts)) ended)
+        (λ e. absurd (let over : r < failure_count u.unit ts = ltb-true _ _ e in omega arith))
+        (or_cases (nat_le (length u.own) (length (attempt_pulls u.unit ts))) (nat_lt r (failure_count u.unit ts)) ended)
 
 pub get_member : {X : Type 0} (xs : List X) (x : X) → Contains xs x → (k : ℕ) × (slice_get xs k ≡ Some x)
 get_member [] x h = none_in x h

@@ -9,7 +9,7 @@ use Rattle.std.proofs.lemmas.List.Folds.{list_any-append}
 use Rattle.std.proofs.lemmas.List.Sums.{sum_by_push}
 use Rattle.gob_device.specs.Supply.{Pull}
 use Rattle.gob_ledger.specs.Turns.{TakenTurn, pulls_in}
-use Rattle.gob_ledger.specs.Counted.{ListedUnit, failures_of, has_ended, has_failed, attempt_pulls, last_attempt}
+use Rattle.gob_ledger.specs.Counted.{ListedUnit, failure_count, has_ended, has_failed, attempt_pulls, last_attempt}
 use Rattle.gob_ledger.specs.Counted.{turns_of_unit}
 
 -- a test as a number
@@ -81,13 +81,13 @@ pub pulled_other : (turns : List TakenTurn) (t : TakenTurn) (i : ℕ) → t.unit
 pulled_other turns t i other = ap (λ ts. pulls_in (last_attempt ts)) (other_turn turns t i other)
 
 -- how often the unit failed, after one more turn of it
-pub failures_more : (turns : List TakenTurn) (t : TakenTurn) (i : ℕ) → t.unit ≡ i → failures_of i (turns ++ t ∷ [])
-    ≡ failures_of i turns + cond (has_failed t) 1 0
+pub failures_more : (turns : List TakenTurn) (t : TakenTurn) (i : ℕ) → t.unit ≡ i → failure_count i (turns ++ t ∷ [])
+    ≡ failure_count i turns + cond (has_failed t) 1 0
 failures_more turns t i is = ap (count_by has_failed) (own_turn turns t i is) ∙ sum_by_push
     (λ s. cond (has_failed s) 1 0) (turns_of_unit i turns) t
 
-pub failures_other : (turns : List TakenTurn) (t : TakenTurn) (i : ℕ) → t.unit ≢ i → failures_of i (turns ++ t ∷ [])
-    ≡ failures_of i turns
+pub failures_other : (turns : List TakenTurn) (t : TakenTurn) (i : ℕ) → t.unit ≢ i → failure_count i (turns ++ t ∷ [])
+    ≡ failure_count i turns
 failures_other turns t i other = ap (count_by has_failed) (other_turn turns t i other)
 
 -- another unit has ended where it had

@@ -7,9 +7,9 @@ use Rattle.std.specs.declared.cmp.Ordering.TheVariants.{Less, Equal, Greater}
 use Rattle.std.specs.List.{Contains}
 use Rattle.std.specs.Ordering.{nat_cmp, ordering_then}
 use Rattle.std.proofs.lemmas.Bool.{cases_order, eq-eqb, lt-ltb, le-ltb}
-use Rattle.gob_bytes.proofs.Forms.{offsets_one_form, length-padded}
+use Rattle.gob_bytes.proofs.Forms.{offsets_one_form, length-padded_digits}
 use Rattle.gob_bytes.proofs.Tables.{less_apart, less_then, name_level, rising_tail}
-use Rattle.gob_bytes.specs.Digits.{offset, padded}
+use Rattle.gob_bytes.specs.Digits.{offset, padded_digits}
 use Rattle.gob_bytes.specs.Paths.{begins_with, under, state_name, delta_folder, delta_name}
 use Rattle.gob_bytes.specs.Tables.{name_cmp, IsInByteOrder}
 use Rattle.gob_ledger.proofs.Members.{none_in, first_in, later_in, in_cases}
@@ -70,19 +70,19 @@ cmp_push (x ∷ xs) (y ∷ ys) a b same = cases (nat_cmp x y) (cmp_push xs ys a 
     cases Equal later = later
     cases Greater later = refl
 
-padded_order : (k m n : ℕ) → m < n → n < 10 ^ k → name_cmp (padded k m) (padded k n) ≡ Less
-unfolding padded
+padded_order : (k m n : ℕ) → m < n → n < 10 ^ k → name_cmp (padded_digits k m) (padded_digits k n) ≡ Less
+unfolding padded_digits
 padded_order zero m n less small = absurd (omega (arith, less, small))
 padded_order (suc k) m n less small =
-    cmp_push (padded k (m / 10)) (padded k (n / 10)) (48 + m % 10) (48 + n % 10)
-    (length-padded k (m / 10) ∙ sym (length-padded k (n / 10)))
+    cmp_push (padded_digits k (m / 10)) (padded_digits k (n / 10)) (48 + m % 10) (48 + n % 10)
+    (length-padded_digits k (m / 10) ∙ sym (length-padded_digits k (n / 10)))
     ∙ ⊎_elim
     (λ level.
     let last : m % 10 < n % 10 = omega (arith, level, less) in
-    ap (λ q. ordering_then (name_cmp (padded k (m / 10)) (padded k q))
+    ap (λ q. ordering_then (name_cmp (padded_digits k (m / 10)) (padded_digits k q))
     (ordering_then (nat_cmp (48 + m % 10) (48 + n % 10)) Equal)) (sym level)
     ∙ ap (λ o. ordering_then o (ordering_then (nat_cmp (48 + m % 10) (48 + n % 10)) Equal))
-    (name_level (padded k (m / 10)))
+    (name_level (padded_digits k (m / 10)))
     ∙ ap (λ o. ordering_then o Equal) (less_number (48 + m % 10) (48 + n % 10) (omega (arith, last))))
     (λ apart. ⊎_elim
     (λ front.
@@ -95,7 +95,7 @@ padded_order (suc k) m n less small =
 pub change_order : (job : List ℕ) (m n : ℕ) → m < n → n < 2 ^ 64 → name_cmp (delta_name job m) (delta_name job n) ≡ Less
 unfolding offset
 change_order job m n less small =
-    behind_front (delta_folder job) (padded 20 m) (padded 20 n) ∙ padded_order 20 m n less (omega (arith, small))
+    behind_front (delta_folder job) (padded_digits 20 m) (padded_digits 20 n) ∙ padded_order 20 m n less (omega (arith, small))
 
 -- ---- names in order
 

@@ -2,8 +2,8 @@
 use Rattle.std.proofs.Common.{refl, [], ◌∷◌, codes, lit<}
 use Rattle.std.specs.Fmt.{digits}
 use Rattle.std.specs.Str.{is_utf8, chars}
-use Rattle.gob_bytes.specs.Digits.{offset, padded}
-use Rattle.gob_bytes.specs.Escapes.{escaped}
+use Rattle.gob_bytes.specs.Digits.{offset, padded_digits}
+use Rattle.gob_bytes.specs.Escapes.{escape_of}
 use Rattle.gob_bytes.specs.Lines.{lines_from}
 use Rattle.gob_device.specs.Supply.{bytes_from}
 use Rattle.gob_plan.specs.Tests.{test_holds}
@@ -22,12 +22,12 @@ use Rattle.gob_ledger.specs.Spelling.{state_spelling}
 use Rattle.gob_ledger.specs.Delta.{change_of, delta_spelling}
 use Rattle.gob_ledger.specs.Groups.{groups_of}
 use Rattle.gob_ledger.specs.Turns.{own_pulls, turns_of, verdicts_of}
-use Rattle.gob_ledger.specs.Examples.{WorkedExamples, done}
+use Rattle.gob_ledger.specs.Examples.{WorkedExamples, range_done}
 use Rattle.gob_jobs.proofs.PlanTables.{plain_text_are}
 use Rattle.gob_meaning.specs.Plans.{without_rules}
 
 pub worked : WorkedExamples
-unfolding digits is_utf8 chars lib.Utf8.encode offset padded escaped lines_from bytes_from test_holds unit_fold sent_to
+unfolding digits is_utf8 chars lib.Utf8.encode offset padded_digits escape_of lines_from bytes_from test_holds unit_fold sent_to
     counts_of stop_of picks place_of line_rows record_of made_in_branch line_made target_name ruling warnings_of
     verdict_of sum_of units_of_parts next_state state_spelling delta_spelling change_of groups_of own_pulls turns_of
     verdicts_of
@@ -43,9 +43,9 @@ worked = record {
   last_number_is_whole = refl;
   published_file = record {
     part = codes "a.log";
-    marks = record { next = 4; finished = done 0 4 ∷ []; owed = [] };
+    marks = record { next = 4; finished = range_done 0 4 ∷ []; owed = [] };
     of_part = refl;
-    done = done 0 4;
+    range_done = range_done 0 4;
     of_marks = (0, lit< tt, refl);
     pipeline = plain_pipeline;
     of_state = refl;

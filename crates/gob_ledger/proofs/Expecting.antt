@@ -18,7 +18,7 @@ use Rattle.gob_ledger.specs.Units.{span_of}
 use Rattle.gob_ledger.specs.Next.{Judged, no_marks, with_owed, with_done, change_part, add_unit, finish_unit}
 use Rattle.gob_ledger.specs.Next.{fold_units, with_pipeline, pipeline_index, state_with_commit_or, allowed_units}
 use Rattle.gob_ledger.specs.Next.{next_state}
-use Rattle.gob_ledger.specs.Expected.{IsMade, IsExpected, IsPublished, bytes_in}
+use Rattle.gob_ledger.specs.Expected.{IsMade, IsExpected, IsPublished, bytes_of_range}
 use Rattle.gob_ledger.specs.Laws.{NextExpects}
 use Rattle.gob_ledger.proofs.Members.{none_in, first_in, later_in, in_cases}
 use Rattle.gob_ledger.proofs.Changes.{marks_or, marks_or-at, changed_cases, at_itself, at_other, adds-pipelines}
@@ -144,7 +144,7 @@ unit_finishes p (k ∷ js) s j h = ⊎_elim
 from_done : (job : List ℕ) (s : State) (archive : Held) (name content part : List ℕ) (d : Done) (pipeline : List ℕ)
     (plan : Plan) (path : List ℕ)
     → HasDone s part d → slice_get s.pipelines d.pipeline ≡ Some pipeline → plan_of pipeline ≡ Some plan
-    → IsMade plan part d.span (bytes_in archive part d.span) path content → name ≡ under job path
+    → IsMade plan part d.span (bytes_of_range archive part d.span) path content → name ≡ under job path
     → IsExpected job s archive name content
 from_done job s archive name content part d pipeline plan path h at is made called = record {
   part = part;
@@ -195,12 +195,12 @@ committed_expects job s pipeline plan archive name content all (d ∷ ds) tiled 
         let pipe : e.pipeline ≡ pipeline = cc in
         let plans : e.plan ≡ plan = let h : Some e.plan ≡ Some plan = sym e.of_pipeline ∙ (ap plan_of pipe ∙ is) in
         cc in
-        let made : IsMade plan u.0.0.part (span_of u.0.0) (bytes_in archive u.0.0.part (span_of u.0.0)) e.path content =
-        subst (λ p. IsMade p u.0.0.part (span_of u.0.0) (bytes_in archive u.0.0.part (span_of u.0.0)) e.path content)
+        let made : IsMade plan u.0.0.part (span_of u.0.0) (bytes_of_range archive u.0.0.part (span_of u.0.0)) e.path content =
+        subst (λ p. IsMade p u.0.0.part (span_of u.0.0) (bytes_of_range archive u.0.0.part (span_of u.0.0)) e.path content)
         plans
-        (subst (λ (sp : Span). IsMade e.plan u.0.0.part sp (bytes_in archive u.0.0.part sp) e.path content)
+        (subst (λ (sp : Span). IsMade e.plan u.0.0.part sp (bytes_of_range archive u.0.0.part sp) e.path content)
         (sym (ap (λ (x : Done). x.span) same))
-        (subst (λ part. IsMade e.plan part e.done.span (bytes_in archive part e.done.span) e.path content) u.2.0
+        (subst (λ part. IsMade e.plan part e.done.span (bytes_of_range archive part e.done.span) e.path content) u.2.0
         e.made)) in
         inr (record { unit = u.0; of_units = u.1; path = e.path; made = made; called = e.called }))
         (finishes_has (pipeline_index pipeline s) (d ∷ ds) (fold_units add_unit (with_pipeline pipeline s) all) e.part

@@ -20,7 +20,7 @@ use Rattle.gob_meaning.specs.Results.{Verdict, failed, first_failing, verdict_by
 use Rattle.gob_bytes.specs.Lines.{ends_in_lf}
 use Rattle.gob_ledger.specs.Turns.{TakenTurn, gave_up, member, turns_from, turns_of, then_turns, verdicts_of}
 use Rattle.gob_ledger.specs.Turns.{waiting_at_first, Waiting, place_at, replace_at}
-use Rattle.gob_ledger.specs.Counted.{failures_of, has_failed, turns_of_unit}
+use Rattle.gob_ledger.specs.Counted.{failure_count, has_failed, turns_of_unit}
 use Rattle.gob_ledger.specs.TurnLaws.{GivingUpTakesFailures, NoFailureNoFault, is_fault}
 use Rattle.gob_ledger.proofs.Counting.{one_if}
 use Rattle.gob_ledger.proofs.Attempts.{failed_at_end, fails_by_number}
@@ -84,15 +84,15 @@ bytes_no_fault plan u bytes = elim u.listed as
 -- how often the units with these numbers failed
 failures_in : ℕ → ℕ → List TakenTurn → ℕ
 failures_in n zero ts = 0
-failures_in n (suc m) ts = failures_of n ts + failures_in (n + 1) m ts
+failures_in n (suc m) ts = failure_count n ts + failures_in (n + 1) m ts
 
-failures_cons : (t : TakenTurn) (ts : List TakenTurn) (n : ℕ) → failures_of n (t ∷ ts)
-    ≡ cond (nat_eq t.unit n) (cond (has_failed t) 1 0) 0 + failures_of n ts
+failures_cons : (t : TakenTurn) (ts : List TakenTurn) (n : ℕ) → failure_count n (t ∷ ts)
+    ≡ cond (nat_eq t.unit n) (cond (has_failed t) 1 0) 0 + failure_count n ts
 failures_cons t ts n = elim (nat_eq t.unit n) as
     (λ b. count_by has_failed (cond b (t ∷ turns_of_unit n ts) (turns_of_unit n ts))
-    ≡ cond b (cond (has_failed t) 1 0) 0 + failures_of n ts) [
+    ≡ cond b (cond (has_failed t) 1 0) 0 + failure_count n ts) [
       | true ↦ sum_by-cons (λ s. cond (has_failed s) 1 0) t (turns_of_unit n ts)
-      | false ↦ (let none : failures_of n ts ≡ 0 + failures_of n ts = omega arith in none)
+      | false ↦ (let none : failure_count n ts ≡ 0 + failure_count n ts = omega arith in none)
     ]
 
 failures_past : (t : TakenTurn) (ts : List TakenTurn) (n m : ℕ) → t.unit < n → failures_in n m (t ∷ ts)
@@ -100,11 +100,11 @@ failures_past : (t : TakenTurn) (ts : List TakenTurn) (n m : ℕ) → t.unit < n
 unfolding failures_in
 failures_past t ts n zero below = refl
 failures_past t ts n (suc m) below =
-    let here : failures_of n (t ∷ ts) ≡ failures_of n ts =
+    let here : failure_count n (t ∷ ts) ≡ failure_count n ts =
     failures_cons t ts n ∙
-    (ap (λ b. cond b (cond (has_failed t) 1 0) 0 + failures_of n ts)
+    (ap (λ b. cond b (cond (has_failed t) 1 0) 0 + failure_count n ts)
     (ne_eqb t.unit n (λ e. omega (arith, below))) ∙
-    (let none : 0 + failures_of n ts ≡ failures_of n ts = omega arith in none)) in
+    (let none : 0 + failure_count n ts ≡ failure_count n ts = omega arith in none)) in
     let later = failures_past t ts (n + 1) m (omega arith) in
     λ i. here i + later i
 
@@ -113,13 +113,13 @@ failures_one : (t : TakenTurn) (ts : List TakenTurn) (n m : ℕ)
 unfolding failures_in
 failures_one t ts n zero = omega arith
 failures_one t ts n (suc m) = ⊎_elim
-    (λ e. let here : failures_of n (t ∷ ts)
-    ≡ cond (has_failed t) 1 0 + failures_of n ts = failures_cons t ts n ∙ ap
-    (λ b. cond b (cond (has_failed t) 1 0) 0 + failures_of n ts) (eq-eqb t.unit n e) in
+    (λ e. let here : failure_count n (t ∷ ts)
+    ≡ cond (has_failed t) 1 0 + failure_count n ts = failures_cons t ts n ∙ ap
+    (λ b. cond b (cond (has_failed t) 1 0) 0 + failure_count n ts) (eq-eqb t.unit n e) in
     let later = failures_past t ts (n + 1) m (omega (arith, e)) in omega arith)
-    (λ ne. let here : failures_of n (t ∷ ts)
-    ≡ 0 + failures_of n ts = failures_cons t ts n ∙ ap
-    (λ b. cond b (cond (has_failed t) 1 0) 0 + failures_of n ts) (ne_eqb t.unit n ne) in
+    (λ ne. let here : failure_count n (t ∷ ts)
+    ≡ 0 + failure_count n ts = failures_cons t ts n ∙ ap
+    (λ b. cond b (cond (has_failed t) 1 0) 0 + failure_count n ts) (ne_eqb t.unit n ne) in
     let later = failures_one t ts (n + 1) m in omega arith)
     (cases_eq t.unit n)
 
@@ -205,7 +205,7 @@ is_given_up job held turns e = elim (gave_up turns e.0) as
 
 -- each unit that was given up has failed so often
 faults_cost : (job : Job) (held : Held) (turns : List TakenTurn) (n : ℕ) (units : List WorkUnit)
-    → ((i : ℕ) → gave_up turns i ≡ nat_eq (failures_of i turns) (job.max_retries + 1))
+    → ((i : ℕ) → gave_up turns i ≡ nat_eq (failure_count i turns) (job.max_retries + 1))
     → count_by is_fault (map (verdict_at job held turns) (enumerate_from n units)) *
     (job.max_retries + 1) ≤ failures_in n (length units) turns
 unfolding failures_in
@@ -216,11 +216,11 @@ faults_cost job held turns n (u ∷ us) known =
     let sum = sum_by-cons (λ v. one_if (is_fault v)) (verdict_at job held turns (n, u))
     (map (verdict_at job held turns) (enumerate_from (n + 1) us)) in
     let is : is_fault (verdict_at job held turns (n, u))
-    ≡ nat_eq (failures_of n turns) (job.max_retries + 1) = is_given_up job held turns (n, u) ∙ known n in
+    ≡ nat_eq (failure_count n turns) (job.max_retries + 1) = is_given_up job held turns (n, u) ∙ known n in
     let first : one_if (is_fault (verdict_at job held turns (n, u)))
-    ≡ one_if (nat_eq (failures_of n turns) (job.max_retries + 1)) = ap one_if is in
-    let cost = costs (failures_of n turns) (job.max_retries + 1) rest in
-    subst (λ m. m * (job.max_retries + 1) ≤ failures_of n turns + failures_in (n + 1) (length us) turns)
+    ≡ one_if (nat_eq (failure_count n turns) (job.max_retries + 1)) = ap one_if is in
+    let cost = costs (failure_count n turns) (job.max_retries + 1) rest in
+    subst (λ m. m * (job.max_retries + 1) ≤ failure_count n turns + failures_in (n + 1) (length us) turns)
     (sym (sum ∙ ap (λ m. m + rest) first)) (omega arith)
   where
     costs : (f r rest : ℕ) → (one_if (nat_eq f r) + rest) * r ≤ f + rest * r
@@ -274,17 +274,17 @@ pub giving_up : GivingUpTakesFailures
 unfolding verdicts_of
 giving_up job held units failing some bytes =
     let turns : List TakenTurn = turns_of job held units failing in
-    let known : (i : ℕ) → (failures_of i turns ≤ job.max_retries + 1)
+    let known : (i : ℕ) → (failure_count i turns ≤ job.max_retries + 1)
     × (gave_up turns i
-    ≡ nat_eq (failures_of i turns) (job.max_retries + 1)) = failed_at_end job held units failing some bytes in
+    ≡ nat_eq (failure_count i turns) (job.max_retries + 1)) = failed_at_end job held units failing some bytes in
     let fails : (k : ℕ) (t : TakenTurn) → slice_get turns k ≡ Some t → has_failed t
     ≡ member k failing = fails_by_number job held units failing some bytes in
     record {
       fails = fails;
       most = λ i. (known i).0;
       given_up = λ i. (
-        λ e. eqb-true (failures_of i turns) (job.max_retries + 1) (sym (known i).1 ∙ e),
-        λ e. (known i).1 ∙ eq-eqb (failures_of i turns) (job.max_retries + 1) e,
+        λ e. eqb-true (failure_count i turns) (job.max_retries + 1) (sym (known i).1 ∙ e),
+        λ e. (known i).1 ∙ eq-eqb (failure_count i turns) (job.max_retries + 1) e,
       );
       fault = fault_where job held turns units;
       few =

@@ -15,7 +15,7 @@ use Rattle.gob_device.specs.Supply.{Held, bytes_from, bytes_at}
 use Rattle.gob_ledger.specs.Marks.{Marks, Span, Done}
 use Rattle.gob_ledger.specs.State.{State, marks_at, TiledState}
 use Rattle.gob_ledger.specs.Archive.{Grows, IsLineStart, LiesOnLines, LiesIn, IsWithin}
-use Rattle.gob_ledger.specs.Expected.{IsMade, IsExpected, bytes_in}
+use Rattle.gob_ledger.specs.Expected.{IsMade, IsExpected, bytes_of_range}
 use Rattle.gob_ledger.specs.Totals.{counts_where, plan_at, done_counts, part_counts, sum_counts, counted_in}
 use Rattle.gob_ledger.specs.Laws.{GrownArchive}
 use Rattle.gob_ledger.proofs.Members.{first_in, later_in, map_in}
@@ -49,7 +49,7 @@ front_reads_same x y lo len fits =
 -- a range that lies in the archive has the same bytes in the later one
 pub bytes_stay : (archive later : Held) (part bytes : List ℕ) (s : Span) → Grows archive later
     → at_name archive part ≡ Some bytes → s.lo < s.hi → s.hi ≤ length bytes
-    → bytes_in later part s ≡ bytes_in archive part s
+    → bytes_of_range later part s ≡ bytes_of_range archive part s
 unfolding bytes_from
 bytes_stay archive later part bytes s grows at some fits =
     let g = grows part bytes at in
@@ -60,7 +60,7 @@ bytes_stay archive later part bytes s grows at some fits =
 
 done_bytes_stay : (archive later : Held) (s : State) (part : List ℕ) (m : Marks) (d : Done) → Grows archive later
     → IsWithin archive s → TiledState s → marks_at s part ≡ Some m → Contains m.finished d
-    → bytes_in later part d.span ≡ bytes_in archive part d.span
+    → bytes_of_range later part d.span ≡ bytes_of_range archive part d.span
 done_bytes_stay archive later s part m d grows within tiled at h =
     let w = within part m at in
     let b = done_below m (tiled.tiled part m at) d.span (map_in (λ (x : Done). x.span) m.finished d h) in
@@ -79,7 +79,7 @@ flat_map_alike f g (x ∷ xs) same = λ i. same x (first_in x xs x refl) i
     ++ flat_map_alike f g xs (λ y h. same y (later_in x xs y h)) i
 
 where_alike : (o : Option Plan) (archive later : Held) (part : List ℕ) (s : Span)
-    → bytes_in later part s ≡ bytes_in archive part s → counts_where o later part s ≡ counts_where o archive part s
+    → bytes_of_range later part s ≡ bytes_of_range archive part s → counts_where o later part s ≡ counts_where o archive part s
 where_alike None archive later part s same = refl
 where_alike (Some plan) archive later part s same = ap (λ b. counts_of plan (unit_fold plan s.lo b)) same
 
@@ -93,7 +93,7 @@ counted_stays archive later s grows within tiled rising =
     (done_bytes_stay archive later s e.0 e.1 d grows within tiled (at_from_member s.parts e.0 e.1 rising h) k))))
 
 read_alike : (job : List ℕ) (s : State) (one other : Held) (name content : List ℕ)
-    (e : IsExpected job s one name content) → bytes_in one e.part e.done.span ≡ bytes_in other e.part e.done.span
+    (e : IsExpected job s one name content) → bytes_of_range one e.part e.done.span ≡ bytes_of_range other e.part e.done.span
     → IsExpected job s other name content
 read_alike job s one other name content e same = record {
   part = e.part;

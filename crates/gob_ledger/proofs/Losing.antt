@@ -18,7 +18,7 @@ use Rattle.gob_device.specs.Supply.{Held, IsEntry, bytes_at, listing_of}
 use Rattle.gob_plan.specs.declared.plan.Limits.{Limits}
 use Rattle.gob_plan.specs.declared.units.Unit.{Unit as WorkUnit}
 use Rattle.gob_ledger.specs.Marks.{Marks, Span, Done, Tiled, done_spans, has, is_done}
-use Rattle.gob_ledger.specs.State.{State, TiledState, marks_at, no_branch, no_counts}
+use Rattle.gob_ledger.specs.State.{State, TiledState, marks_at, no_branch_counts, no_counts}
 use Rattle.gob_ledger.specs.Units.{first_shrunk, fresh_in, is_kept, is_listed, new_units, next_of, owed_unit}
 use Rattle.gob_ledger.specs.Units.{owed_units, span_of, units_of}
 use Rattle.gob_ledger.specs.Units.{units_of_parts}
@@ -254,7 +254,7 @@ pub empty_proper : EmptyIsProper
 unfolding IsDistinct
 empty_proper branches some few =
     let number : length (no_counts branches).branches
-    ≡ branches = length-map-range_with_len (λ _. no_branch) 0 branches in
+    ≡ branches = length-map-range_with_len (λ _. no_branch_counts) 0 branches in
     record {
       run = omega arith;
       pipelines = All-nil IsKeptPipeline;
@@ -265,7 +265,7 @@ empty_proper branches some few =
         bad = omega arith;
         rows = omega arith;
         unrouted = omega arith;
-        branches = All-map SmallBranch (λ _. no_branch) (range_with_len 0 branches)
+        branches = All-map SmallBranch (λ _. no_branch_counts) (range_with_len 0 branches)
             (λ k d below. record { written = omega arith; errors = omega arith; optional = omega arith });
       };
       branches = (omega arith, omega arith);

@@ -8,7 +8,7 @@ use Rattle.std.specs.Fmt.{decimal}
 use Rattle.std.specs.Str.{bytes_eq}
 use Rattle.std.proofs.lemmas.Bool.{cond-true, le-leb, lt-ltb, eq-eqb}
 use Rattle.std.proofs.lemmas.List.Elements.{recursion_from_All}
-use Rattle.gob_bytes.specs.Escapes.{escaped}
+use Rattle.gob_bytes.specs.Escapes.{escape_of}
 use Rattle.gob_bytes.specs.Tables.{Table}
 use Rattle.gob_plan.specs.declared.units.BranchCounts.{BranchCounts}
 use Rattle.gob_plan.specs.declared.units.Counts.{Counts}
@@ -366,7 +366,7 @@ gathered_mixed from (d ∷ ds) os order =
     ∙ ap (with_range (inl d)) (gathered_mixed d.span.hi ds os order.2)
 
 part_line_read : (v : Version) (e : List ℕ × Marks) → PartFits v e
-    → name_and_next (escaped e.0 ∷ decimal e.1.next ∷ []) ≡ Some (e.0, e.1.next)
+    → name_and_next (escape_of e.0 ∷ decimal e.1.next ∷ []) ≡ Some (e.0, e.1.next)
 part_line_read v e fit =
     ap (λ o. named_with o (numbers_read (decimal e.1.next ∷ []))) (escaped_read e.0 fit.bytes)
     ∙ ap (named_with (Some e.0)) (numbers_back (e.1.next ∷ []) (fit.next, tt))

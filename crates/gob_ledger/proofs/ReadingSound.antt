@@ -9,7 +9,7 @@ use Rattle.std.specs.Str.{bytes_eq}
 use Rattle.std.proofs.lemmas.Bool.{and_parts, cond_both, cond-true, eqb-true, le-ltb, leb-true, lt-ltb}
 use Rattle.std.proofs.lemmas.List.Elements.{All-from_recursion}
 use Rattle.gob_bytes.proofs.Tables.{same_name}
-use Rattle.gob_bytes.specs.Escapes.{escaped}
+use Rattle.gob_bytes.specs.Escapes.{escape_of}
 use Rattle.gob_bytes.specs.Tables.{Table}
 use Rattle.gob_plan.specs.declared.units.BranchCounts.{BranchCounts}
 use Rattle.gob_plan.specs.declared.units.Counts.{Counts}
@@ -359,7 +359,7 @@ mixed_again low (inr s ∷ rs) rise =
 
 named_is : (w : List ℕ) (ws : List (List ℕ)) (o : Option (List ℕ)) (q : Option (List ℕ)) (name : List ℕ) (next : ℕ)
     → bytes_read w ≡ o → numbers_read ws ≡ q
-    → named_with o q ≡ Some (name, next) → w ∷ ws ≡ escaped name ∷ decimal next ∷ []
+    → named_with o q ≡ Some (name, next) → w ∷ ws ≡ escape_of name ∷ decimal next ∷ []
 named_is w ws None q name next a b e = absurd (let never : None ≡ Some (name, next) = e in cc)
 named_is w ws (Some x) None name next a b e = absurd (let never : None ≡ Some (name, next) = e in cc)
 named_is w ws (Some x) (Some []) name next a b e = absurd (let never : None ≡ Some (name, next) = e in cc)
@@ -367,18 +367,18 @@ named_is w ws (Some x) (Some (n ∷ [])) name next a b e =
     let pair : (x, n) ≡ (name, next) = cc in
     let first = (escaped_is w x a).0 in
     let others = (numbers_are ws (n ∷ []) b).0 in
-    (λ i. first i ∷ others i) ∙ ap (λ (p : List ℕ × ℕ). escaped p.0 ∷ decimal p.1 ∷ []) pair
+    (λ i. first i ∷ others i) ∙ ap (λ (p : List ℕ × ℕ). escape_of p.0 ∷ decimal p.1 ∷ []) pair
 named_is w ws (Some x) (Some (n ∷ m ∷ ns)) name next a b e = absurd (let never : None ≡ Some (name, next) = e in cc)
 
 name_and_next_is : (ws : List (List ℕ)) (name : List ℕ) (next : ℕ) → name_and_next ws ≡ Some (name, next)
-    → ws ≡ escaped name ∷ decimal next ∷ []
+    → ws ≡ escape_of name ∷ decimal next ∷ []
 name_and_next_is [] name next e = absurd (let never : None ≡ Some (name, next) = e in cc)
 name_and_next_is (w ∷ ws) name next e = named_is w ws (bytes_read w) (numbers_read ws) name next refl refl e
 
 part_is : (l : WordLine) (name : List ℕ) (next : ℕ) → part_read l ≡ Some (name, next)
-    → l ≡ (codes "partition", escaped name ∷ decimal next ∷ [])
+    → l ≡ (codes "partition", escape_of name ∷ decimal next ∷ [])
 part_is l name next = cond_both (bytes_eq l.0 (codes "partition")) (name_and_next l.1) None
-    (λ o. o ≡ Some (name, next) → l ≡ (codes "partition", escaped name ∷ decimal next ∷ []))
+    (λ o. o ≡ Some (name, next) → l ≡ (codes "partition", escape_of name ∷ decimal next ∷ []))
     (λ t e. λ i. (same_name l.0 (codes "partition") t i, name_and_next_is l.1 name next e i))
     (λ _ e. absurd (let never : None ≡ Some (name, next) = e in cc))
 
@@ -411,7 +411,7 @@ with_part_is v l ls (Some p) b a read behind e =
     let again = mixed_again 0 b.0 rise in
     let tail : List WordLine = flat_map (part_lines v) b.1 ++ end_line ∷ [] in
     (λ i. line i ∷ behind i)
-    ∙ ap (λ rs. (codes "partition", escaped p.0 ∷ decimal p.1 ∷ []) ∷ (map (range_words v) rs ++ tail)) (sym again)
+    ∙ ap (λ rs. (codes "partition", escape_of p.0 ∷ decimal p.1 ∷ []) ∷ (map (range_words v) rs ++ tail)) (sym again)
     ∙ sym (append_assoc (part_lines v (p.0, record (gathered b.0) { next = p.1 })) (flat_map (part_lines v) b.1)
     (end_line ∷ []))
     ∙ ap (lines_from_parts v) whole)

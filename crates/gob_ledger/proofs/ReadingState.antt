@@ -8,7 +8,7 @@ use Rattle.std.proofs.lemmas.List.Elements.{recursion_from_All}
 use Rattle.gob_bytes.proofs.Forms.{bytes_from_utf8}
 use Rattle.gob_bytes.proofs.Tables.{at_from_member}
 use Rattle.gob_bytes.specs.Tables.{Table}
-use Rattle.gob_bytes.specs.Words.{numbered}
+use Rattle.gob_bytes.specs.Words.{numbered_line}
 use Rattle.gob_ledger.specs.Marks.{Marks, Done, Span, Tiled}
 use Rattle.gob_ledger.specs.State.{State, marks_at, TiledState}
 use Rattle.gob_ledger.specs.Spelling.{Small, ProperPart, Proper, Version, version_1, version_2, version_number}

@@ -12,7 +12,7 @@ use Rattle.std.proofs.lemmas.Fmt.{digits_decimal}
 use Rattle.std.proofs.lemmas.Str.Parse.{IsNumeralModel, numerals_by_value, tells_all_ascii_digits}
 use Rattle.std.proofs.lemmas.List.Elements.{All-head, All-tail, All-from_recursion}
 use Rattle.percent_encoding.specs.Percent.{percent_encode_byte, percent_decode}
-use Rattle.gob_bytes.specs.Escapes.{is_letter, is_digit, is_plain, escaped, AreBytes}
+use Rattle.gob_bytes.specs.Escapes.{is_letter, is_digit, is_plain, escape_of, AreBytes}
 use Rattle.gob_bytes.specs.Numbers.{number_read}
 use Rattle.gob_bytes.proofs.Forms.{one_form, unescaped, own}
 use Rattle.gob_bytes.proofs.Tables.{name_itself, same_name}
@@ -153,10 +153,10 @@ plain_above b e = ⊎_elim
     (exactly_above b 45 (omega arith))
     (or_cases (is_letter b || is_digit b || nat_eq b 46 || nat_eq b 95) (nat_eq b 45) e)
 
-pub escaped_is_word : (name : List ℕ) → IsWord (escaped name)
-unfolding escaped
+pub escaped_is_word : (name : List ℕ) → IsWord (escape_of name)
+unfolding escape_of
 escaped_is_word [] = refl
-escaped_is_word (b ∷ bs) = word_append (cond (is_plain b) (b ∷ []) (percent_encode_byte b)) (escaped bs)
+escaped_is_word (b ∷ bs) = word_append (cond (is_plain b) (b ∷ []) (percent_encode_byte b)) (escape_of bs)
     (cond_both (is_plain b) (b ∷ []) (percent_encode_byte b) IsWord (λ p. word_one b (plain_above b p))
     (λ _. encoded_is_word b))
     (escaped_is_word bs)
@@ -164,7 +164,7 @@ escaped_is_word (b ∷ bs) = word_append (cond (is_plain b) (b ∷ []) (percent_
 -- a word as the bytes that are escaped to it
 abbrev pub bytes_read : List ℕ → Option (List ℕ)
 bytes_read w = cond
-    (bytes_eq (escaped (percent_decode w)) w && list_all (λ b. nat_lt b 256) (percent_decode w))
+    (bytes_eq (escape_of (percent_decode w)) w && list_all (λ b. nat_lt b 256) (percent_decode w))
     (Some (percent_decode w)) None
 
 are_small : (bs : List ℕ) → AreBytes bs → list_all (λ b. nat_lt b 256) bs ≡ true
@@ -181,23 +181,23 @@ small_are bs e = All-from_recursion (λ b. b < 256) bs (each bs e)
         and_parts (nat_lt b 256) (list_all (λ x. nat_lt x 256) bs) e in (ltb-true b 256 p.0, each bs p.1)
 
 -- bytes that were escaped are read
-pub escaped_read : (name : List ℕ) → AreBytes name → bytes_read (escaped name) ≡ Some name
+pub escaped_read : (name : List ℕ) → AreBytes name → bytes_read (escape_of name) ≡ Some name
 escaped_read name small =
-    let back : percent_decode (escaped name) ≡ name = unescaped name small in
-    ap (λ x. cond (bytes_eq (escaped x) (escaped name) && list_all (λ b. nat_lt b 256) x) (Some x) None) back
-    ∙ cond-true (bytes_eq (escaped name) (escaped name) && list_all (λ b. nat_lt b 256) name) (Some name) None
-    (and_from _ _ (name_itself (escaped name)) (are_small name small))
+    let back : percent_decode (escape_of name) ≡ name = unescaped name small in
+    ap (λ x. cond (bytes_eq (escape_of x) (escape_of name) && list_all (λ b. nat_lt b 256) x) (Some x) None) back
+    ∙ cond-true (bytes_eq (escape_of name) (escape_of name) && list_all (λ b. nat_lt b 256) name) (Some name) None
+    (and_from _ _ (name_itself (escape_of name)) (are_small name small))
 
 -- bytes that are read were escaped so
-pub escaped_is : (w name : List ℕ) → bytes_read w ≡ Some name → (w ≡ escaped name) × AreBytes name
+pub escaped_is : (w name : List ℕ) → bytes_read w ≡ Some name → (w ≡ escape_of name) × AreBytes name
 escaped_is w name =
-    cond_both (bytes_eq (escaped (percent_decode w)) w && list_all (λ b. nat_lt b 256) (percent_decode w))
-    (Some (percent_decode w)) None (λ o. o ≡ Some name → (w ≡ escaped name) × AreBytes name)
+    cond_both (bytes_eq (escape_of (percent_decode w)) w && list_all (λ b. nat_lt b 256) (percent_decode w))
+    (Some (percent_decode w)) None (λ o. o ≡ Some name → (w ≡ escape_of name) × AreBytes name)
     (λ t e.
-    let p = and_parts (bytes_eq (escaped (percent_decode w)) w) _ t in
+    let p = and_parts (bytes_eq (escape_of (percent_decode w)) w) _ t in
     let n : percent_decode w ≡ name = cc in (
-      sym (same_name (escaped (percent_decode w)) w p.0)
-          ∙ ap escaped n,
+      sym (same_name (escape_of (percent_decode w)) w p.0)
+          ∙ ap escape_of n,
       subst AreBytes n (small_are (percent_decode w) p.1),
     ))
     (λ t e. absurd (let never : None ≡ Some name = e in cc))
@@ -208,7 +208,7 @@ abbrev pub Setting : Type 0
 Setting = List ℕ × List ℕ
 
 abbrev pub setting_word : Setting → List ℕ
-setting_word s = s.0 ++ 61 ∷ escaped s.1
+setting_word s = s.0 ++ 61 ∷ escape_of s.1
 
 key_is : (k : List ℕ) → is_key k ≡ true → list_all (λ c. is_letter c || is_digit c || nat_eq c 46) k ≡ true
 key_is [] e = refl
@@ -231,8 +231,8 @@ key_is_word (b ∷ bs) e =
     word_more b bs (key_byte b p.0).0 (key_is_word bs p.1)
 
 pub setting_is_word : (s : Setting) → IsSetting s.0 s.1 → IsWord (setting_word s)
-setting_is_word s is = word_append s.0 (61 ∷ escaped s.1) (key_is_word s.0 (key_is s.0 is.keyed))
-    (word_more 61 (escaped s.1) (omega arith) (escaped_is_word s.1))
+setting_is_word s is = word_append s.0 (61 ∷ escape_of s.1) (key_is_word s.0 (key_is s.0 is.keyed))
+    (word_more 61 (escape_of s.1) (omega arith) (escaped_is_word s.1))
 
 abbrev pub with_key_byte : ℕ → Option (List ℕ × List ℕ) → Option (List ℕ × List ℕ)
 with_key_byte b None = None
@@ -267,7 +267,7 @@ split_back (b ∷ bs) v e =
 -- a setting that was written is read
 pub setting_word_read : (s : Setting) → IsSetting s.0 s.1 → setting_read (setting_word s) ≡ Some s
 setting_word_read s is =
-    ap setting_of (split_back s.0 (escaped s.1) (key_is s.0 is.keyed))
+    ap setting_of (split_back s.0 (escape_of s.1) (key_is s.0 is.keyed))
     ∙ cond-true (is_key s.0) _ None is.keyed
     ∙ ap (with_value s.0) (escaped_read s.1 is.bytes)
 

@@ -11,7 +11,7 @@ use Rattle.std.proofs.lemmas.Option.{none-some, same_Some, slice_get-get_or}
 use Rattle.gob_device.specs.Supply.{Pull}
 use Rattle.gob_meaning.specs.Job.{Job}
 use Rattle.gob_ledger.specs.Turns.{TakenTurn, Waiting, after_pull, first_pull, one_turn, replace_at}
-use Rattle.gob_ledger.specs.Counted.{ListedUnit, failures_of, has_ended, has_failed, attempt_pulls, turn_behind}
+use Rattle.gob_ledger.specs.Counted.{ListedUnit, failure_count, has_ended, has_failed, attempt_pulls, turn_behind}
 use Rattle.gob_ledger.specs.Counted.{units_left}
 use Rattle.gob_ledger.proofs.Members.{none_in, first_in, later_in, in_cases, in_filter}
 use Rattle.gob_ledger.proofs.Counting.{ended_other, failures_more, failures_other, pulled_failed, pulled_other}
@@ -68,7 +68,7 @@ wait_of turns u = record {
   all = u.own;
   left = drop
       (length (attempt_pulls u.unit turns)) u.own;
-  failures = failures_of u.unit turns;
+  failures = failure_count u.unit turns;
 }
 
 abbrev pub waiting_behind : ℕ → List ListedUnit → List TakenTurn → List Waiting
@@ -77,19 +77,19 @@ waiting_behind retries us turns = map (wait_of turns) (units_left retries us tur
 -- what is known of a unit that hasn't ended
 pub record IsLeft (retries : ℕ) (turns : List TakenTurn) (u : ListedUnit) : Type 0 where
   pub more : length (attempt_pulls u.unit turns) < length u.own
-  pub may : failures_of u.unit turns ≤ retries
+  pub may : failure_count u.unit turns ≤ retries
 
 pub is_left : (retries : ℕ) (us : List ListedUnit) (turns : List TakenTurn) (u : ListedUnit)
     → Contains (units_left retries us turns) u → Contains us u × IsLeft retries turns u
 is_left retries us turns u h =
     let r = in_filter (λ v. not (has_ended retries turns v)) us u h in
     let parts = or_parts (nat_le (length u.own) (length (attempt_pulls u.unit turns)))
-    (nat_lt retries (failures_of u.unit turns)) (not-true (has_ended retries turns u) r.1) in (
+    (nat_lt retries (failure_count u.unit turns)) (not-true (has_ended retries turns u) r.1) in (
       r.0,
       record {
         more = leb-false (length u.own)
             (length (attempt_pulls u.unit turns)) parts.0;
-        may = ltb-false retries (failures_of u.unit turns) parts.1;
+        may = ltb-false retries (failure_count u.unit turns) parts.1;
       },
     )
 
@@ -108,17 +108,17 @@ drop_front (suc n) (p ∷ ps) = drop_front n ps
 
 -- the turn that a waiting unit takes is the one that is counted
 pub turn_is : (job : Job) (fails : Bool) (turns : List TakenTurn) (u : ListedUnit)
-    → failures_of u.unit turns ≤ job.max_retries
+    → failure_count u.unit turns ≤ job.max_retries
     → (one_turn job fails (wait_of turns u)).0 ≡ turn_behind job.max_retries fails turns u
 turn_is job true turns u may = λ i. record { unit = u.unit; pull = None; gave_up = same i }
   where
-    same : nat_le job.max_retries (failures_of u.unit turns) ≡ nat_eq (failures_of u.unit turns) job.max_retries
+    same : nat_le job.max_retries (failure_count u.unit turns) ≡ nat_eq (failure_count u.unit turns) job.max_retries
     same = ⊎_elim
-        (λ e. le-leb job.max_retries (failures_of u.unit turns) (omega arith) ∙ sym
-        (eq-eqb (failures_of u.unit turns) job.max_retries e))
-        (λ ne. lt-leb job.max_retries (failures_of u.unit turns) (omega arith) ∙ sym
-        (ne_eqb (failures_of u.unit turns) job.max_retries ne))
-        (cases_eq (failures_of u.unit turns) job.max_retries)
+        (λ e. le-leb job.max_retries (failure_count u.unit turns) (omega arith) ∙ sym
+        (eq-eqb (failure_count u.unit turns) job.max_retries e))
+        (λ ne. lt-leb job.max_retries (failure_count u.unit turns) (omega arith) ∙ sym
+        (ne_eqb (failure_count u.unit turns) job.max_retries ne))
+        (cases_eq (failure_count u.unit turns) job.max_retries)
 turn_is job false turns u may = λ i. record {
   unit = u.unit;
   pull = drop_front
@@ -138,7 +138,7 @@ map_one f false x = refl
 
 behind_is : (retries : ℕ) (turns : List TakenTurn) (u : ListedUnit)
     → map (wait_of turns) (filter (λ v. not (has_ended retries turns v)) (u ∷ []))
-    ≡ behind retries u (attempt_pulls u.unit turns) (failures_of u.unit turns)
+    ≡ behind retries u (attempt_pulls u.unit turns) (failure_count u.unit turns)
 behind_is retries turns u = map_one (wait_of turns) (not (has_ended retries turns u)) u
 
 next_drop : (m : ℕ) (p : Pull) (ps : List Pull) → drop (suc m + 1) (p ∷ ps) ≡ drop (m + 1) ps
@@ -195,14 +195,14 @@ left_is : (job : Job) (fails : Bool) (turns : List TakenTurn) (u : ListedUnit) �
     ≡ map (wait_of (turns ++ t ∷ [])) (filter (λ v. not (has_ended job.max_retries (turns ++ t ∷ []) v)) (u ∷ []))
 left_is job true turns u left =
     let t : TakenTurn = turn_behind job.max_retries true turns u in
-    let f : ℕ = failures_of u.unit turns in
+    let f : ℕ = failure_count u.unit turns in
     let now : Waiting = record { unit = u.unit; all = u.own; left = u.own; failures = f + 1 } in
     let none : nat_le (length u.own) 0 ≡ false = let more = left.more in lt-leb (length u.own) 0 (omega arith) in
     ap (λ b. cond b (now ∷ []) [])
     (may_again f job.max_retries ∙ ap not
     (sym (no_or (nat_le (length u.own) 0) (nat_lt job.max_retries (f + 1)) none)))
     ∙ (behind_same job.max_retries u [] (attempt_pulls u.unit (turns ++ t ∷ [])) (f + 1)
-    (failures_of u.unit (turns ++ t ∷ [])) (sym (pulled_failed turns t u.unit refl refl))
+    (failure_count u.unit (turns ++ t ∷ [])) (sym (pulled_failed turns t u.unit refl refl))
     (sym (failures_more turns t u.unit refl))
     ∙ sym (behind_is job.max_retries (turns ++ t ∷ []) u))
 left_is job false turns u left = pulls (slice_get u.own (length (attempt_pulls u.unit turns))) refl
@@ -220,13 +220,13 @@ left_is job false turns u left = pulls (slice_get u.own (length (attempt_pulls u
     pulls (Some p) e =
         let t : TakenTurn = turn_behind job.max_retries false turns u in
         let before : List Pull = attempt_pulls u.unit turns in
-        let f : ℕ = failures_of u.unit turns in
+        let f : ℕ = failure_count u.unit turns in
         let n : ℕ = length before in
         let w : Waiting = wait_of turns u in
         let few : nat_lt job.max_retries f ≡ false = let may = left.may in le-ltb job.max_retries f may in
         let passed : has_failed t ≡ false = ap (λ o. not (is_some o)) e in
         let long : length (before ++ p ∷ []) ≡ n + 1 = length_push before p in
-        let failures : failures_of u.unit (turns ++ t ∷ [])
+        let failures : failure_count u.unit (turns ++ t ∷ [])
         ≡ f = failures_more turns t u.unit refl ∙
         (ap (λ b. f + cond b 1 0) passed ∙ (let zero_more : f + 0 ≡ f = omega arith in zero_more)) in
         let after : behind job.max_retries u (before ++ p ∷ []) f
@@ -236,7 +236,7 @@ left_is job false turns u left = pulls (slice_get u.own (length (attempt_pulls u
         pull_leaves w u.own n left.more
         ∙ (sym after
         ∙ (behind_same job.max_retries u (before ++ p ∷ []) (attempt_pulls u.unit (turns ++ t ∷ [])) f
-        (failures_of u.unit (turns ++ t ∷ [])) (sym (pulled_passed turns t u.unit p refl e)) (sym failures)
+        (failure_count u.unit (turns ++ t ∷ [])) (sym (pulled_passed turns t u.unit p refl e)) (sym failures)
         ∙ sym (behind_is job.max_retries (turns ++ t ∷ []) u)))
 
 -- ---- the others

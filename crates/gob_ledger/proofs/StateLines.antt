@@ -10,9 +10,9 @@ use Rattle.std.proofs.lemmas.Bool.{ne_eqb}
 use Rattle.std.proofs.lemmas.List.Concat.{flat_map-append}
 use Rattle.std.proofs.lemmas.List.Elements.{All-head, All-tail, recursion_from_All}
 use Rattle.std.proofs.lemmas.List.Sums.{sum_by-cons}
-use Rattle.gob_bytes.specs.Escapes.{escaped, AreBytes}
+use Rattle.gob_bytes.specs.Escapes.{escape_of, AreBytes}
 use Rattle.gob_bytes.specs.Tables.{Table}
-use Rattle.gob_bytes.specs.Words.{words, numbered}
+use Rattle.gob_bytes.specs.Words.{words, numbered_line}
 use Rattle.gob_plan.specs.declared.units.BranchCounts.{BranchCounts}
 use Rattle.gob_plan.specs.declared.units.Counts.{Counts}
 use Rattle.gob_ledger.specs.Marks.{Marks, Done, Span, done_spans, InOrder}
@@ -193,7 +193,7 @@ pipeline_has_lines p (ss, all, is, small) =
     }
 
 pipeline_text : (p : List ℕ) → HasLines p → lines_text (pipeline_lines p) ≡ pipeline_part p
-pipeline_text p h = ap (λ x. numbered (codes "pipeline") (line_count p ∷ []) ++ x) h.whole
+pipeline_text p h = ap (λ x. numbered_line (codes "pipeline") (line_count p ∷ []) ++ x) h.whole
 
 many_text : (ps : List (List ℕ)) → AllByRecursion HasLines ps
     → lines_text (flat_map pipeline_lines ps) ≡ flat_map pipeline_part ps
@@ -208,12 +208,12 @@ many_good (p ∷ ps) h = each_append AreWords (pipeline_lines p) (flat_map pipel
 
 -- the text of pipelines
 abbrev pub counted_text : Option ℕ → List (List ℕ) → List ℕ
-counted_text None ps = numbered (codes "pipelines") (length ps ∷ []) ++ flat_map pipeline_part ps
+counted_text None ps = numbered_line (codes "pipelines") (length ps ∷ []) ++ flat_map pipeline_part ps
 counted_text (Some k) ps = flat_map pipeline_part ps
 
 pub pipelines_text_is : (how : Option ℕ) (ps : List (List ℕ)) → AllByRecursion HasLines ps
     → lines_text (pipelines_lines how ps) ≡ counted_text how ps
-pipelines_text_is None ps h = ap (λ x. numbered (codes "pipelines") (length ps ∷ []) ++ x) (many_text ps h)
+pipelines_text_is None ps h = ap (λ x. numbered_line (codes "pipelines") (length ps ∷ []) ++ x) (many_text ps h)
 pipelines_text_is (Some k) ps h = many_text ps h
 
 pub pipelines_good : (how : Option ℕ) (ps : List (List ℕ)) → Small (length ps) → AllByRecursion HasLines ps
@@ -237,7 +237,7 @@ branches_text (p ∷ ps) = ap (λ x. branch_line p ++ x) (branches_text ps)
 
 pub totals_text_is : (c : Counts) → lines_text (totals_lines c) ≡ totals_text c
 totals_text_is c =
-    ap (λ x. numbered (codes "totals") (c.records ∷ c.bad ∷ c.rows ∷ c.unrouted ∷ []) ++ x)
+    ap (λ x. numbered_line (codes "totals") (c.records ∷ c.bad ∷ c.rows ∷ c.unrouted ∷ []) ++ x)
     (branches_text (enumerate_from 0 c.branches))
 
 branches_good : (i : ℕ) (bs : List BranchCounts) → i + length bs ≤ 8 → AllByRecursion SmallBranch bs
@@ -281,7 +281,7 @@ mixed (d ∷ ds) os = put_range (inl d) (mixed ds os)
 
 abbrev pub part_lines : Version → List ℕ × Marks → List WordLine
 part_lines v e =
-    (codes "partition", escaped e.0 ∷ decimal e.1.next ∷ []) ∷ map (range_words v) (mixed e.1.finished e.1.owed)
+    (codes "partition", escape_of e.0 ∷ decimal e.1.next ∷ []) ∷ map (range_words v) (mixed e.1.finished e.1.owed)
 
 put_each : (P : Range → Type 0) (r : Range) (rs : List Range) → P r → AllByRecursion P rs
     → AllByRecursion P (put_range r rs)
@@ -386,7 +386,7 @@ placed_text v [] = refl
 placed_text v (r ∷ rs) = ap (λ x. line_bytes (range_words v r) ++ x) (placed_text v rs)
 
 part_text_is : (v : Version) (e : List ℕ × Marks) → lines_text (part_lines v e) ≡ part_text v e
-part_text_is v e = ap (λ x. words (codes "partition") (escaped e.0 ∷ decimal e.1.next ∷ []) ++ x)
+part_text_is v e = ap (λ x. words (codes "partition") (escape_of e.0 ∷ decimal e.1.next ∷ []) ++ x)
     (sym (placed_text v (mixed e.1.finished e.1.owed))
     ∙ sym (ap (λ ls. flat_map (λ (l : Placed). l.1) ls) (mixed_placed v e.1.finished e.1.owed)))
 
@@ -487,8 +487,8 @@ pub contents_text : (kind : List ℕ) (v : Version) (how : Option ℕ) (c : Stat
     → lines_text (contents_lines kind v how c)
     ≡ file_text kind v c.run (counted_text how c.pipelines ++ totals_text c.totals ++ parts_text v c.parts)
 contents_text kind v how c have =
-    let first : List ℕ = numbered kind (version_number v ∷ []) in
-    let run : List ℕ = numbered (codes "run") (c.run ∷ []) in
+    let first : List ℕ = numbered_line kind (version_number v ∷ []) in
+    let run : List ℕ = numbered_line (codes "run") (c.run ∷ []) in
     ap (λ x. first ++ (run ++ x)) (inner_text v how c have)
     ∙ regrouped first run (counted_text how c.pipelines) (totals_text c.totals) (parts_text v c.parts) (codes "end")
     (10 ∷ [])

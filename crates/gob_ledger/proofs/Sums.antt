@@ -17,7 +17,7 @@ use Rattle.gob_plan.specs.declared.units.Counts.{Counts}
 use Rattle.gob_meaning.specs.Fold.{Folded, saturate_u64, counts_of, branch_counts}
 use Rattle.gob_ledger.specs.Marks.{Marks, Span, Done}
 use Rattle.gob_meaning.specs.Sums.{both_branches, branch_sums, sum_of}
-use Rattle.gob_ledger.specs.State.{State, no_branch, no_counts, TiledState}
+use Rattle.gob_ledger.specs.State.{State, no_branch_counts, no_counts, TiledState}
 use Rattle.gob_ledger.specs.Units.{span_of}
 use Rattle.gob_ledger.specs.Next.{Judged, no_marks, insert_done, with_owed, with_done, change_part, add_unit}
 use Rattle.gob_ledger.specs.Next.{finish_unit, fold_units, counts_in, plus, with_pipeline, pipeline_index}
@@ -91,12 +91,12 @@ unrouted_add = record {
 
 -- one of a branch's counts
 record OfBranch (h : BranchCounts → ℕ) : Type 0 where
-  none : h no_branch ≡ 0
+  none : h no_branch_counts ≡ 0
   joins : (a b : BranchCounts) → h (both_branches a b) ≡ saturate_u64 (h a + h b)
   small : (fold : List Folded) (k : ℕ) → h (branch_counts fold k) ≤ most
 
 abbrev pub branch_or : List BranchCounts → ℕ → BranchCounts
-branch_or bs i = unwrap_or (slice_get bs i) no_branch
+branch_or bs i = unwrap_or (slice_get bs i) no_branch_counts
 
 from_none : (n m : ℕ) → n ≡ 0 → saturate_u64 m ≡ saturate_u64 (n + m)
 from_none n m e = omega arith
@@ -106,8 +106,8 @@ to_none n m e = omega arith
 
 sums_join : (h : BranchCounts → ℕ) → OfBranch h → (xs ys : List BranchCounts) (i : ℕ)
     → saturate_u64 (h (branch_or (branch_sums xs ys) i)) ≡ saturate_u64 (h (branch_or xs i) + h (branch_or ys i))
-sums_join h o [] ys i = from_none (h no_branch) (h (branch_or ys i)) o.none
-sums_join h o (x ∷ xs) [] i = to_none (h (branch_or (x ∷ xs) i)) (h no_branch) o.none
+sums_join h o [] ys i = from_none (h no_branch_counts) (h (branch_or ys i)) o.none
+sums_join h o (x ∷ xs) [] i = to_none (h (branch_or (x ∷ xs) i)) (h no_branch_counts) o.none
 sums_join h o (x ∷ xs) (y ∷ ys) zero = ap saturate_u64 (o.joins x y) ∙ twice (h x + h y)
 sums_join h o (x ∷ xs) (y ∷ ys) (suc i) = sums_join h o xs ys i
 

@@ -1,6 +1,6 @@
 -- The worked runs, computed.
 use Rattle.std.proofs.Common.{refl}
-use Rattle.gob_bytes.specs.Escapes.{escaped}
+use Rattle.gob_bytes.specs.Escapes.{escape_of}
 use Rattle.gob_bytes.specs.Lines.{lines_from}
 use Rattle.gob_device.specs.Supply.{bytes_from}
 use Rattle.gob_plan.specs.Tests.{test_holds}
@@ -18,7 +18,7 @@ use Rattle.gob_ledger.specs.Turns.{own_pulls, turns_of, verdicts_of}
 use Rattle.gob_ledger.specs.WorkedRuns.{WorkedRuns}
 
 pub worked : WorkedRuns
-unfolding is_utf8 chars lib.Utf8.encode escaped lines_from bytes_from test_holds unit_fold counts_of stop_of picks
+unfolding is_utf8 chars lib.Utf8.encode escape_of lines_from bytes_from test_holds unit_fold counts_of stop_of picks
     place_of line_rows record_of made_in_branch line_made ruling warnings_of verdict_of sum_of units_of_parts next_state
     own_pulls turns_of verdicts_of
 worked = record {

@@ -1,7 +1,7 @@
 -- The tables of states and groups, computed.
 use Rattle.std.proofs.Common.{refl, arith}
 use Rattle.percent_encoding.specs.Percent.{percent_encode_byte}
-use Rattle.gob_bytes.specs.Escapes.{escaped}
+use Rattle.gob_bytes.specs.Escapes.{escape_of}
 use Rattle.gob_bytes.specs.Lines.{lines_from}
 use Rattle.gob_device.specs.Supply.{bytes_from}
 use Rattle.gob_plan.specs.Tests.{test_holds}
@@ -57,7 +57,7 @@ of_totals = record {
 }
 
 of_groups : WorkedGroups
-unfolding escaped percent_encode_byte lines_from sum_of units_of_parts next_state groups_of
+unfolding escape_of percent_encode_byte lines_from sum_of units_of_parts next_state groups_of
 of_groups = record {
   slashes = refl;
   datasets = refl;

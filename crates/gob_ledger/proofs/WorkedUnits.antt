@@ -1,7 +1,7 @@
 -- The tables of ranges and units, computed.
 use Rattle.std.proofs.Common.{◌≡◌, ◌<◌, ◌≤◌, ℕ, zero, suc, true, refl, arith, ap, ◌∙◌, cond, nat_le, nat_lt, le-ltb}
 use Rattle.percent_encoding.specs.Percent.{percent_encode_byte}
-use Rattle.gob_bytes.specs.Escapes.{escaped}
+use Rattle.gob_bytes.specs.Escapes.{escape_of}
 use Rattle.gob_bytes.specs.Lines.{lines_from}
 use Rattle.std.proofs.lemmas.Bool.{and_right}
 use Rattle.gob_ledger.proofs.Counting.{one_if}
@@ -57,7 +57,7 @@ of_cuts : WorkedCuts
 of_cuts = record { from_start = refl; from_an_end = refl; from_behind = refl; in_a_row = refl; rounds = refl }
 
 of_partitions : WorkedPartitions
-unfolding escaped percent_encode_byte
+unfolding escape_of percent_encode_byte
 of_partitions = record {
   short = refl;
   kept = refl;
@@ -70,7 +70,7 @@ of_partitions = record {
 }
 
 of_order : WorkedOrder
-unfolding units_of_parts escaped percent_encode_byte lines_from
+unfolding units_of_parts escape_of percent_encode_byte lines_from
 of_order = record { owed_first = refl; more_at_once = refl; new_of_one = refl; same_units = refl }
 
 pub worked : WorkedUnits

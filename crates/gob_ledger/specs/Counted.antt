@@ -26,8 +26,8 @@ abbrev pub has_failed : TakenTurn → Bool
 has_failed t = is_none t.pull
 
 -- how often the unit failed
-abbrev pub failures_of : ℕ → List TakenTurn → ℕ
-failures_of u turns = count_by has_failed (turns_of_unit u turns)
+abbrev pub failure_count : ℕ → List TakenTurn → ℕ
+failure_count u turns = count_by has_failed (turns_of_unit u turns)
 
 -- the turns behind the last one that failed: those of the last attempt
 abbrev pub last_attempt : List TakenTurn → List TakenTurn
@@ -51,7 +51,7 @@ listed_units job held units =
 -- in these turns the unit has made the last of its pulls, or has failed once too often
 abbrev pub has_ended : ℕ → List TakenTurn → ListedUnit → Bool
 has_ended retries turns u =
-    nat_le (length u.own) (length (attempt_pulls u.unit turns)) || nat_lt retries (failures_of u.unit turns)
+    nat_le (length u.own) (length (attempt_pulls u.unit turns)) || nat_lt retries (failure_count u.unit turns)
 
 -- those that haven't ended in these turns
 abbrev pub units_left : ℕ → List ListedUnit → List TakenTurn → List ListedUnit
@@ -62,7 +62,7 @@ abbrev pub turn_behind : ℕ → Bool → List TakenTurn → ListedUnit → Take
 turn_behind retries fails turns u = record {
   unit = u.unit;
   pull = if fails then None else slice_get u.own (length (attempt_pulls u.unit turns));
-  gave_up = fails && nat_eq (failures_of u.unit turns) retries;
+  gave_up = fails && nat_eq (failure_count u.unit turns) retries;
 }
 
 -- the turn that comes behind these turns, where a unit is left

@@ -26,8 +26,8 @@ abbrev pub span : ℕ → ℕ → Span
 span lo hi = record { lo = lo; hi = hi }
 
 -- a range that the state's first pipeline made
-abbrev pub done : ℕ → ℕ → Done
-done lo hi = record { span = span lo hi; pipeline = 0 }
+abbrev pub range_done : ℕ → ℕ → Done
+range_done lo hi = record { span = span lo hi; pipeline = 0 }
 
 -- a new unit
 abbrev pub fresh : List ℕ → ℕ → ℕ → WorkUnit
@@ -95,7 +95,7 @@ with_a_kill = (codes "a.log", codes "a\nK\nb\n") ∷ []
 
 -- two lines are done, and the one between them is owed
 abbrev pub kill_marks : Marks
-kill_marks = record { next = 6; finished = done 0 2 ∷ done 4 6 ∷ []; owed = span 2 4 ∷ [] }
+kill_marks = record { next = 6; finished = range_done 0 2 ∷ range_done 4 6 ∷ []; owed = span 2 4 ∷ [] }
 
 -- the state after a run over these
 abbrev pub after_a_kill : State
@@ -132,21 +132,21 @@ plain_state = record {
   run = 1;
   pipelines = plain_pipeline ∷ [];
   totals = lines_written 2;
-  parts = (codes "a.log", record { next = 4; finished = done 0 4 ∷ []; owed = [] }) ∷ [];
+  parts = (codes "a.log", record { next = 4; finished = range_done 0 4 ∷ []; owed = [] }) ∷ [];
 }
 
 -- the state after a run over one line
 abbrev pub one_line : State
 one_line = record plain_state {
   totals = lines_written 1;
-  parts = (codes "a.log", record { next = 2; finished = done 0 2 ∷ []; owed = [] }) ∷ [];
+  parts = (codes "a.log", record { next = 2; finished = range_done 0 2 ∷ []; owed = [] }) ∷ [];
 }
 
 -- the state after a second run over one more
 abbrev pub two_done : State
 two_done = record plain_state {
   run = 2;
-  parts = (codes "a.log", record { next = 5; finished = done 0 2 ∷ done 2 5 ∷ []; owed = [] }) ∷ [];
+  parts = (codes "a.log", record { next = 5; finished = range_done 0 2 ∷ range_done 2 5 ∷ []; owed = [] }) ∷ [];
 }
 
 -- a new unit of this partition, which fails

@@ -15,8 +15,8 @@ use Rattle.gob_ledger.specs.Next.{Judged}
 use Rattle.gob_jobs.specs.Plans.{plan_of}
 
 -- a range's bytes
-abbrev pub bytes_in : Held → List ℕ → Span → List ℕ
-bytes_in archive part s = bytes_from archive part s.lo (s.hi - s.lo)
+abbrev pub bytes_of_range : Held → List ℕ → Span → List ℕ
+bytes_of_range archive part s = bytes_from archive part s.lo (s.hi - s.lo)
 
 -- this path with this content is one of those that the bytes of a range make
 pub record IsMade (plan : Plan) (part : List ℕ) (s : Span) (bytes path content : List ℕ) : Type 0 where
@@ -37,7 +37,7 @@ pub record IsExpected (job : List ℕ) (s : State) (archive : Held) (name conten
   pub plan : Plan
   pub of_pipeline : plan_of pipeline ≡ Some plan
   pub path : List ℕ
-  pub made : IsMade plan part done.span (bytes_in archive part done.span) path content
+  pub made : IsMade plan part done.span (bytes_of_range archive part done.span) path content
   pub called : name ≡ under job path
 
 -- this name with this content is what one of these units makes
@@ -46,5 +46,5 @@ pub record IsPublished (job : List ℕ) (plan : Plan) (archive : Held) (units : 
   pub unit : Judged
   pub of_units : Contains units unit
   pub path : List ℕ
-  pub made : let s = span_of unit.0 in IsMade plan unit.0.part s (bytes_in archive unit.0.part s) path content
+  pub made : let s = span_of unit.0 in IsMade plan unit.0.part s (bytes_of_range archive unit.0.part s) path content
   pub called : name ≡ under job path

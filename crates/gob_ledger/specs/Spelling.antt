@@ -5,9 +5,9 @@ use Rattle.std.specs.declared.option.Option.TheVariants.{Some}
 use Rattle.std.specs.List.{All, count_by, enumerate_from, flat_map, list_all, IsDistinct}
 use Rattle.std.specs.Fmt.{decimal}
 use Rattle.std.specs.Str.{bytes_eq, IsUtf8}
-use Rattle.gob_bytes.specs.Escapes.{escaped, is_letter, is_digit}
+use Rattle.gob_bytes.specs.Escapes.{escape_of, is_letter, is_digit}
 use Rattle.gob_bytes.specs.Tables.{Table, names_of, IsInByteOrder}
-use Rattle.gob_bytes.specs.Words.{words, numbered}
+use Rattle.gob_bytes.specs.Words.{words, numbered_line}
 use Rattle.gob_plan.specs.declared.units.BranchCounts.{BranchCounts}
 use Rattle.gob_plan.specs.declared.units.Counts.{Counts}
 use Rattle.gob_jobs.specs.Pipelines.{IsSetting, setting_line}
@@ -69,7 +69,7 @@ FitsVersion version_1 s = length s.pipelines ≡ 1
 FitsVersion version_2 s = Unit {0}
 
 abbrev pub branch_line : ℕ × BranchCounts → List ℕ
-branch_line p = numbered (codes "branch") (p.0 ∷ p.1.written ∷ p.1.errors ∷ p.1.optional ∷ [])
+branch_line p = numbered_line (codes "branch") (p.0 ∷ p.1.written ∷ p.1.errors ∷ p.1.optional ∷ [])
 
 -- a line with the offset by which it is placed
 abbrev pub Placed : Type 0
@@ -89,10 +89,10 @@ made_by version_1 d = []
 made_by version_2 d = d.pipeline ∷ []
 
 abbrev pub done_line : Version → Done → Placed
-done_line v d = (d.span.lo, numbered (codes "done") (d.span.lo ∷ d.span.hi ∷ made_by v d))
+done_line v d = (d.span.lo, numbered_line (codes "done") (d.span.lo ∷ d.span.hi ∷ made_by v d))
 
 abbrev pub open_line : Span → Placed
-open_line s = (s.lo, numbered (codes "open") (s.lo ∷ s.hi ∷ []))
+open_line s = (s.lo, numbered_line (codes "open") (s.lo ∷ s.hi ∷ []))
 
 -- the lines of a partition's ranges, by their offsets
 abbrev pub range_lines : Version → Marks → List Placed
@@ -100,7 +100,7 @@ range_lines v m = put_lines (map (done_line v) m.finished) (map open_line m.owed
 
 abbrev pub part_text : Version → List ℕ × Marks → List ℕ
 part_text v e =
-    words (codes "partition") (escaped e.0 ∷ decimal e.1.next ∷ []) ++ flat_map (λ l. l.1) (range_lines v e.1)
+    words (codes "partition") (escape_of e.0 ∷ decimal e.1.next ∷ []) ++ flat_map (λ l. l.1) (range_lines v e.1)
 
 abbrev pub parts_text : Version → Table Marks → List ℕ
 parts_text v parts = flat_map (part_text v) parts
@@ -109,25 +109,25 @@ abbrev pub line_count : List ℕ → ℕ
 line_count text = count_by (λ b. nat_eq b 10) text
 
 abbrev pub pipeline_part : List ℕ → List ℕ
-pipeline_part p = numbered (codes "pipeline") (line_count p ∷ []) ++ p
+pipeline_part p = numbered_line (codes "pipeline") (line_count p ∷ []) ++ p
 
 -- how many pipelines there are, where there may be several
 abbrev pub pipelines_line : Version → List (List ℕ) → List ℕ
 pipelines_line version_1 ps = []
-pipelines_line version_2 ps = numbered (codes "pipelines") (length ps ∷ [])
+pipelines_line version_2 ps = numbered_line (codes "pipelines") (length ps ∷ [])
 
 abbrev pub pipelines_text : Version → List (List ℕ) → List ℕ
 pipelines_text v ps = pipelines_line v ps ++ flat_map pipeline_part ps
 
 abbrev pub totals_text : Counts → List ℕ
 totals_text c =
-    numbered (codes "totals") (c.records ∷ c.bad ∷ c.rows ∷ c.unrouted ∷ [])
+    numbered_line (codes "totals") (c.records ∷ c.bad ∷ c.rows ∷ c.unrouted ∷ [])
     ++ flat_map branch_line (enumerate_from 0 c.branches)
 
 -- a file's first line and its run's, then what it holds, then its last line
 abbrev pub file_text : List ℕ → Version → ℕ → List ℕ → List ℕ
 file_text kind v run inner =
-    numbered kind (version_number v ∷ []) ++ numbered (codes "run") (run ∷ []) ++ inner ++ codes "end" ++ 10 ∷ []
+    numbered_line kind (version_number v ∷ []) ++ numbered_line (codes "run") (run ∷ []) ++ inner ++ codes "end" ++ 10 ∷ []
 
 unfoldable pub state_spelling : Version → State → List ℕ
 state_spelling v s =

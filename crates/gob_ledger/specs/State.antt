@@ -16,8 +16,8 @@ pub record State : Type 0 where
   pub parts : Table Marks
 
 -- nothing went to a branch
-abbrev pub no_branch : BranchCounts
-no_branch = record { written = 0; errors = 0; optional = 0 }
+abbrev pub no_branch_counts : BranchCounts
+no_branch_counts = record { written = 0; errors = 0; optional = 0 }
 
 -- nothing was counted, of so many branches
 abbrev pub no_counts : ℕ → Counts
@@ -26,7 +26,7 @@ no_counts branches = record {
   bad = 0;
   rows = 0;
   unrouted = 0;
-  branches = map (λ _. no_branch) (range_with_len 0 branches);
+  branches = map (λ _. no_branch_counts) (range_with_len 0 branches);
 }
 
 -- nothing is committed yet

@@ -11,13 +11,13 @@ use Rattle.gob_plan.specs.declared.units.Counts.{Counts}
 use Rattle.gob_meaning.specs.Fold.{unit_fold, counts_of}
 use Rattle.gob_ledger.specs.Marks.{Marks, Span, Done}
 use Rattle.gob_meaning.specs.Sums.{sum_of}
-use Rattle.gob_ledger.specs.State.{State, no_branch, no_counts}
-use Rattle.gob_ledger.specs.Expected.{bytes_in}
+use Rattle.gob_ledger.specs.State.{State, no_branch_counts, no_counts}
+use Rattle.gob_ledger.specs.Expected.{bytes_of_range}
 use Rattle.gob_jobs.specs.Plans.{plan_of}
 
 -- what a range of a partition makes
 abbrev pub span_counts : Plan → Held → List ℕ → Span → Counts
-span_counts plan archive part s = counts_of plan (unit_fold plan s.lo (bytes_in archive part s))
+span_counts plan archive part s = counts_of plan (unit_fold plan s.lo (bytes_of_range archive part s))
 
 -- the plan of the state's pipeline with this index
 abbrev pub plan_at : List (List ℕ) → ℕ → Option Plan
@@ -47,7 +47,7 @@ counted_in s archive = sum_counts (flat_map (part_counts s.pipelines archive) s.
 
 -- what went to a branch, nothing where there is none of this index
 abbrev pub branch_at : Counts → ℕ → BranchCounts
-branch_at c i = unwrap_or (slice_get c.branches i) no_branch
+branch_at c i = unwrap_or (slice_get c.branches i) no_branch_counts
 
 -- the same counts, where a branch that one side lacks counts as zero
 pub record SameCounts (a b : Counts) : Type 0 where

@@ -13,7 +13,7 @@ use Rattle.gob_ledger.specs.Units.{cuts, in_rounds}
 use Rattle.gob_ledger.specs.Turns.{TakenTurn, gave_up, member, own_pulls, pulls_from, stops_within, turns_from}
 use Rattle.gob_ledger.specs.Turns.{turns_of}
 use Rattle.gob_ledger.specs.Turns.{unit_verdict, verdicts_of, waiting_at_first}
-use Rattle.gob_ledger.specs.Counted.{AreScheduled, attempt_pulls, failures_of, has_failed, listed_units}
+use Rattle.gob_ledger.specs.Counted.{AreScheduled, attempt_pulls, failure_count, has_failed, listed_units}
 
 -- each listed unit has bytes
 abbrev pub HaveBytes : List WorkUnit → Type 0
@@ -98,9 +98,9 @@ is_fault (failed cause) = false
 pub record GivesUp (job : Job) (held : Held) (units : List WorkUnit) (failing : List ℕ) : Type 0 where
   pub fails : (k : ℕ) (t : TakenTurn) → slice_get (turns_of job held units failing) k ≡ Some t
       → has_failed t ≡ member k failing
-  pub most : (i : ℕ) → failures_of i (turns_of job held units failing) ≤ job.max_retries + 1
+  pub most : (i : ℕ) → failure_count i (turns_of job held units failing) ≤ job.max_retries + 1
   pub given_up : (i : ℕ) → (gave_up (turns_of job held units failing) i ≡ true)
-      ↔ (failures_of i (turns_of job held units failing) ≡ job.max_retries + 1)
+      ↔ (failure_count i (turns_of job held units failing) ≡ job.max_retries + 1)
   pub fault : (i : ℕ) → (slice_get (verdicts_of job held units failing) i ≡ Some (failed Fault))
       ↔ ((u : WorkUnit) × (slice_get units i ≡ Some u) × (gave_up (turns_of job held units failing) i ≡ true))
   pub few : count_by is_fault (verdicts_of job held units failing) * (job.max_retries + 1) ≤ length failing

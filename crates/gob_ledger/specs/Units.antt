@@ -6,7 +6,7 @@ use Rattle.std.specs.declared.option.Option.{Option}
 use Rattle.std.specs.declared.option.Option.TheVariants.{None, Some}
 use Rattle.std.specs.List.{filter, find, last_or, flat_map, range_with_len, slice_get, sum_by, Contains, IsDistinct}
 use Rattle.std.specs.Str.{bytes_eq}
-use Rattle.gob_bytes.specs.Escapes.{escaped}
+use Rattle.gob_bytes.specs.Escapes.{escape_of}
 use Rattle.gob_bytes.specs.Lines.{line_ends}
 use Rattle.gob_bytes.specs.Paths.{begins_with}
 use Rattle.gob_bytes.specs.Tables.{Table, at_name}
@@ -38,7 +38,7 @@ has_prefix limits part = begins_with limits.prefix part
 
 -- a name that a file's name can hold
 abbrev pub is_short : List ℕ → Bool
-is_short part = nat_le (length (escaped part)) 180
+is_short part = nat_le (length (escape_of part)) 180
 
 -- the job takes this partition
 abbrev pub is_kept : Limits → List ℕ → Bool

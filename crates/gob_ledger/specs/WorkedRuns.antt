@@ -11,7 +11,7 @@ use Rattle.gob_ledger.specs.State.{State}
 use Rattle.gob_ledger.specs.Units.{units_of}
 use Rattle.gob_ledger.specs.Next.{next_state}
 use Rattle.gob_ledger.specs.Turns.{pulls_in, turns_of, verdicts_of}
-use Rattle.gob_ledger.specs.Examples.{after_a_kill, done, four_lines_each, fresh, in_turns, job, killed_unit, killing}
+use Rattle.gob_ledger.specs.Examples.{after_a_kill, range_done, four_lines_each, fresh, in_turns, job, killed_unit, killing}
 use Rattle.gob_ledger.specs.Examples.{lines_written, nothing_yet, of_two_bytes, one_line, one_line_each, one_retry}
 use Rattle.gob_ledger.specs.Examples.{plain_state, pull, span, three_lines_twice, two_done, two_lines, with_a_kill}
 
@@ -36,8 +36,8 @@ abbrev pub of_both : Marks → Marks → State
 of_both a b = record plain_state { parts = (codes "a", a) ∷ (codes "b", b) ∷ [] }
 
 -- so many bytes are taken, in these done ranges and in these owed ones
-abbrev pub taken : ℕ → List Done → List (ℕ × ℕ) → Marks
-taken next finished owed = record { next = next; finished = finished; owed = map (λ e. span e.0 e.1) owed }
+abbrev pub taken_marks : ℕ → List Done → List (ℕ × ℕ) → Marks
+taken_marks next finished owed = record { next = next; finished = finished; owed = map (λ e. span e.0 e.1) owed }
 
 -- a long line among short ones
 abbrev pub long_line : Held
@@ -80,7 +80,7 @@ eight_lines = fresh (codes "a") 0 8 ∷ fresh (codes "b") 0 8 ∷ []
 
 -- all eight lines are done
 abbrev pub eight_done : State
-eight_done = record (of_both (taken 8 (done 0 8 ∷ []) []) (taken 8 (done 0 8 ∷ []) [])) { totals = lines_written 8 }
+eight_done = record (of_both (taken_marks 8 (range_done 0 8 ∷ []) []) (taken_marks 8 (range_done 0 8 ∷ []) [])) { totals = lines_written 8 }
 
 -- the first three units of two partitions, a line each
 abbrev pub first_round : List WorkUnit
@@ -89,7 +89,7 @@ first_round = fresh (codes "a") 0 2 ∷ fresh (codes "b") 0 2 ∷ fresh (codes "
 -- the state after them
 abbrev pub after_first_round : State
 after_first_round =
-    let marks = of_both (taken 4 (done 0 2 ∷ done 2 4 ∷ []) []) (taken 2 (done 0 2 ∷ []) []) in
+    let marks = of_both (taken_marks 4 (range_done 0 2 ∷ range_done 2 4 ∷ []) []) (taken_marks 2 (range_done 0 2 ∷ []) []) in
     record marks { totals = lines_written 3 }
 
 -- the state after the three that were left
@@ -97,7 +97,7 @@ abbrev pub after_both_rounds : State
 after_both_rounds = record (of_both all all) { run = 2; totals = lines_written 6 }
   where
     all : Marks
-    all = taken 6 (done 0 2 ∷ done 2 4 ∷ done 4 6 ∷ []) []
+    all = taken_marks 6 (range_done 0 2 ∷ range_done 2 4 ∷ range_done 4 6 ∷ []) []
 
 -- another pipeline
 abbrev pub json_pipeline : List ℕ
@@ -109,7 +109,7 @@ third_by index pipelines = record plain_state {
   run = 2;
   pipelines = pipelines;
   totals = lines_written 3;
-  parts = (codes "a.log", taken 6 (done 0 4 ∷ record { span = span 4 6; pipeline = index } ∷ []) []) ∷ [];
+  parts = (codes "a.log", taken_marks 6 (range_done 0 4 ∷ record { span = span 4 6; pipeline = index } ∷ []) []) ∷ [];
 }
 
 -- the runs
@@ -128,7 +128,7 @@ pub record WorkedRuns : Type 0 where
       (good_lines 1 ∷ good_lines 1 ∷ good_lines 1 ∷ [])
       (record plain_state {
         totals = lines_written 3;
-        parts = (codes "a.log", taken 14 (done 0 3 ∷ done 3 12 ∷ done 12 14 ∷ []) []) ∷ [];
+        parts = (codes "a.log", taken_marks 14 (range_done 0 3 ∷ range_done 3 12 ∷ range_done 12 14 ∷ []) []) ∷ [];
       })
   pub killed_unit_stays_owed : IsRun killing with_a_kill [] nothing_yet three_units three_pulls
       (good_lines 1 ∷ failed (Kill 0 0 2) ∷ good_lines 1 ∷ []) after_a_kill
@@ -150,16 +150,16 @@ pub record WorkedRuns : Type 0 where
       (good_lines 4 ∷ good_lines 4 ∷ []) eight_done
   pub fails_too_often : IsRun one_retry one_line_each (0 ∷ 1 ∷ []) nothing_yet two_units
       (pull (codes "b") 0 2 ∷ []) (failed Fault ∷ good_lines 1 ∷ [])
-      (record (of_both (taken 2 [] ((0, 2) ∷ [])) (taken 2 (done 0 2 ∷ []) [])) { totals = lines_written 1 })
+      (record (of_both (taken_marks 2 [] ((0, 2) ∷ [])) (taken_marks 2 (range_done 0 2 ∷ []) [])) { totals = lines_written 1 })
   pub one_failure_is_made_up : IsRun one_retry one_line_each (0 ∷ []) nothing_yet two_units
       (pull (codes "a") 0 2 ∷ pull (codes "b") 0 2 ∷ []) (good_lines 1 ∷ good_lines 1 ∷ [])
-      (of_both (taken 2 (done 0 2 ∷ []) []) (taken 2 (done 0 2 ∷ []) []))
+      (of_both (taken_marks 2 (range_done 0 2 ∷ []) []) (taken_marks 2 (range_done 0 2 ∷ []) []))
   pub fails_at_once : IsRun no_retry with_a_kill (2 ∷ []) nothing_yet three_units
       (pull (codes "a.log") 0 2 ∷ pull (codes "a.log") 2 2 ∷ [])
       (good_lines 1 ∷ failed (Kill 0 0 2) ∷ failed Fault ∷ [])
       (record plain_state {
         totals = lines_written 1;
-        parts = (codes "a.log", taken 6 (done 0 2 ∷ []) ((2, 4) ∷ (4, 6) ∷ [])) ∷ [];
+        parts = (codes "a.log", taken_marks 6 (range_done 0 2 ∷ []) ((2, 4) ∷ (4, 6) ∷ [])) ∷ [];
       })
   pub units_come_in_rounds : IsRun of_two_bytes three_lines_twice [] nothing_yet first_round
       (pull (codes "a") 0 2 ∷ pull (codes "b") 0 2 ∷ pull (codes "a") 2 2 ∷ [])

@@ -22,10 +22,10 @@ use Rattle.gob_ledger.specs.Next.{with_pipeline}
 use Rattle.gob_ledger.specs.Groups.{before_slash, dataset_of, group_of, groups_of, is_committed}
 use Rattle.gob_ledger.specs.Totals.{branch_at, counted_in, counts_where, sum_counts}
 use Rattle.gob_ledger.specs.Spelling.{Proper}
-use Rattle.gob_ledger.specs.Examples.{after_a_kill, done, fresh, job, kill_marks, killed_unit, lines_written}
+use Rattle.gob_ledger.specs.Examples.{after_a_kill, range_done, fresh, job, kill_marks, killed_unit, lines_written}
 use Rattle.gob_ledger.specs.Examples.{nothing_yet}
 use Rattle.gob_ledger.specs.Examples.{of_part, plain_state, span, two_lines, with_a_kill}
-use Rattle.gob_ledger.specs.WorkedRuns.{good_lines, json_pipeline, taken, third_by}
+use Rattle.gob_ledger.specs.WorkedRuns.{good_lines, json_pipeline, taken_marks, third_by}
 
 -- no row of a branch
 abbrev pub no_rows : BranchCounts
@@ -40,8 +40,8 @@ abbrev pub done_by : ℕ → ℕ → ℕ → Done
 done_by lo hi index = record { span = span lo hi; pipeline = index }
 
 -- a unit of two bytes with its verdict
-abbrev pub judged : List ℕ → Verdict → Judged
-judged part v = (fresh part 0 2, v)
+abbrev pub judged_unit : List ℕ → Verdict → Judged
+judged_unit part v = (fresh part 0 2, v)
 
 -- the last run number
 abbrev pub last : ℕ
@@ -49,12 +49,12 @@ last = 2 ^ 64 - 1
 
 -- two good units and one that fails, of two datasets
 abbrev pub three_judged : List Judged
-three_judged = judged (codes "b/x") (good_lines 1) ∷ judged (codes "a/x") (failed (Kill 0 0 0))
-    ∷ judged (codes "b/y") (good_lines 1) ∷ []
+three_judged = judged_unit (codes "b/x") (good_lines 1) ∷ judged_unit (codes "a/x") (failed (Kill 0 0 0))
+    ∷ judged_unit (codes "b/y") (good_lines 1) ∷ []
 
 -- for each of these units, whether it is committed
-abbrev pub committed : CommitScope → CommitPolicy → List Bool
-committed s policy = map (is_committed s policy three_judged) three_judged
+abbrev pub commit_flags : CommitScope → CommitPolicy → List Bool
+commit_flags s policy = map (is_committed s policy three_judged) three_judged
 
 -- the units of a group
 abbrev pub its_units : List Judged → List WorkUnit
@@ -71,7 +71,7 @@ chain policy s (g ∷ gs) = s ∷ chain policy (next_state s plain_pipeline (its
 
 -- all of two bytes is done
 abbrev pub two_bytes : Marks
-two_bytes = taken 2 (done 0 2 ∷ []) []
+two_bytes = taken_marks 2 (range_done 0 2 ∷ []) []
 
 -- a state of these partitions, after so many commits of a line each
 abbrev pub after_commits : ℕ → List (List ℕ) → State
@@ -87,8 +87,8 @@ three_servers = (codes "web1/c", codes "x\n") ∷ (codes "web2/c", codes "x\n") 
 
 -- a new line of each of them
 abbrev pub servers_judged : List Judged
-servers_judged = judged (codes "web1/c") (good_lines 1) ∷ judged (codes "web2/c") (good_lines 1)
-    ∷ judged (codes "web3/c") (good_lines 1) ∷ []
+servers_judged = judged_unit (codes "web1/c") (good_lines 1) ∷ judged_unit (codes "web2/c") (good_lines 1)
+    ∷ judged_unit (codes "web3/c") (good_lines 1) ∷ []
 
 -- the state after a commit of these
 abbrev pub next_of_servers : State → State
@@ -98,15 +98,15 @@ next_of_servers s = next_state s plain_pipeline (its_units servers_judged) (its_
 abbrev pub three_done : State
 three_done = record after_a_kill {
   totals = lines_written 3;
-  parts = (codes "a.log", taken 6 (done 0 2 ∷ done 2 4 ∷ done 4 6 ∷ []) []) ∷ [];
+  parts = (codes "a.log", taken_marks 6 (range_done 0 2 ∷ range_done 2 4 ∷ range_done 4 6 ∷ []) []) ∷ [];
 }
 
 -- one partition's ranges before and after a commit
 pub record WorkedMarks : Type 0 where
-  pub owed : with_owed (span 6 8) kill_marks ≡ taken 8 (done 0 2 ∷ done 4 6 ∷ []) ((2, 4) ∷ (6, 8) ∷ [])
-  pub first_owed : with_owed (span 0 3) no_marks ≡ taken 3 [] ((0, 3) ∷ [])
-  pub finished : with_done 1 (span 2 4) kill_marks ≡ taken 6 (done 0 2 ∷ done_by 2 4 1 ∷ done 4 6 ∷ []) []
-  pub inserted : map (λ lo. map (λ d. d.span) (insert_done (done lo 9) (done 2 3 ∷ done 6 7 ∷ [])))
+  pub owed : with_owed (span 6 8) kill_marks ≡ taken_marks 8 (range_done 0 2 ∷ range_done 4 6 ∷ []) ((2, 4) ∷ (6, 8) ∷ [])
+  pub first_owed : with_owed (span 0 3) no_marks ≡ taken_marks 3 [] ((0, 3) ∷ [])
+  pub finished : with_done 1 (span 2 4) kill_marks ≡ taken_marks 6 (range_done 0 2 ∷ done_by 2 4 1 ∷ range_done 4 6 ∷ []) []
+  pub inserted : map (λ lo. map (λ d. d.span) (insert_done (range_done lo 9) (range_done 2 3 ∷ range_done 6 7 ∷ [])))
       (0 ∷ 2 ∷ 4 ∷ 6 ∷ 8 ∷ [])
       ≡ (span 0 9 ∷ span 2 3 ∷ span 6 7 ∷ []) ∷ (span 2 3 ∷ span 2 9 ∷ span 6 7 ∷ [])
       ∷ (span 2 3 ∷ span 4 9 ∷ span 6 7 ∷ [])
@@ -124,9 +124,9 @@ pub record WorkedPolicies : Type 0 where
   pub allowed : map (λ p. its_units (allowed_units p three_judged)) (Full ∷ Successful ∷ [])
       ≡ [] ∷ (fresh (codes "b/x") 0 2 ∷ fresh (codes "b/y") 0 2 ∷ []) ∷ []
   pub counted : map counts_in (good_lines 2 ∷ failed Gone ∷ []) ≡ Some (lines_written 2) ∷ None ∷ []
-  pub by_scope : map (committed scope.Dataset) (Full ∷ Successful ∷ [])
+  pub by_scope : map (commit_flags scope.Dataset) (Full ∷ Successful ∷ [])
       ≡ (true ∷ false ∷ true ∷ []) ∷ (true ∷ false ∷ true ∷ []) ∷ []
-  pub by_job : map (committed scope.Job) (Full ∷ Successful ∷ [])
+  pub by_job : map (commit_flags scope.Job) (Full ∷ Successful ∷ [])
       ≡ (false ∷ false ∷ false ∷ []) ∷ (true ∷ false ∷ true ∷ []) ∷ []
 
 -- states and their totals
@@ -163,11 +163,11 @@ pub record WorkedGroups : Type 0 where
       ∷ (of_part (codes "b/x") ∷ of_part (codes "b/y") ∷ []) ∷ []
   pub no_unit : map (λ s. groups_of s []) (scope.Dataset ∷ scope.Job ∷ []) ≡ [] ∷ ([] ∷ []) ∷ []
   pub whole_job : groups_of scope.Job three_judged ≡ three_judged ∷ []
-  pub its_group : map (λ s. its_units (group_of s three_judged (judged (codes "b/x") (good_lines 1))))
+  pub its_group : map (λ s. its_units (group_of s three_judged (judged_unit (codes "b/x") (good_lines 1))))
       (scope.Dataset ∷ scope.Job ∷ [])
       ≡ (fresh (codes "b/x") 0 2 ∷ fresh (codes "b/y") 0 2 ∷ []) ∷ its_units three_judged ∷ []
   pub one_dataset_fails : chain Full nothing_yet
-      (groups_of scope.Dataset (judged (codes "a/x") (failed (Kill 0 0 0)) ∷ judged (codes "b/x") (good_lines 1) ∷ []))
+      (groups_of scope.Dataset (judged_unit (codes "a/x") (failed (Kill 0 0 0)) ∷ judged_unit (codes "b/x") (good_lines 1) ∷ []))
       ≡ nothing_yet ∷ nothing_yet ∷ after_commits 1 (codes "b/x" ∷ []) ∷ []
   pub each_dataset : chain Successful nothing_yet (groups_of scope.Dataset servers_judged)
       ≡ nothing_yet ∷ after_commits 1 (codes "web1/c" ∷ []) ∷ after_commits 2 (codes "web1/c" ∷ codes "web2/c" ∷ [])

@@ -8,7 +8,7 @@ use Rattle.gob_plan.specs.declared.units.Cause.TheVariants.{Kill, BadRecords, Fa
 use Rattle.gob_meaning.specs.Results.{failed}
 use Rattle.gob_ledger.specs.Turns.{TakenTurn, Waiting, after_failure, after_pull, first_pull, gave_up, member, one_turn}
 use Rattle.gob_ledger.specs.Turns.{place_at, pulls_from, replace_at, turns_of, up_to_first}
-use Rattle.gob_ledger.specs.Counted.{ListedUnit, attempt_pulls, failures_of, last_attempt, listed_units}
+use Rattle.gob_ledger.specs.Counted.{ListedUnit, attempt_pulls, failure_count, last_attempt, listed_units}
 use Rattle.gob_ledger.specs.Counted.{units_left, whose_turn}
 use Rattle.gob_ledger.specs.TurnLaws.{is_fault, piece_count}
 use Rattle.gob_ledger.specs.Examples.{four_lines_each, fresh, in_turns, job, one_line_each, one_retry, pull}
@@ -59,8 +59,8 @@ abbrev pub three_left : List ℕ
 three_left = 4 ∷ 7 ∷ 9 ∷ []
 
 -- the numbers of these units
-abbrev pub numbers_of : List ListedUnit → List ℕ
-numbers_of us = map (λ u. u.unit) us
+abbrev pub unit_numbers : List ListedUnit → List ℕ
+unit_numbers us = map (λ u. u.unit) us
 
 -- whose turn it is, by the schedule, among those that are active
 pub record WorkedSchedule : Type 0 where
@@ -102,16 +102,16 @@ pub record WorkedTurnLists : Type 0 where
   pub with_a_failure : turns_of in_turns four_lines_each eight_lines (2 ∷ []) ≡ eight_turns
   pub given_up : turns_of one_retry one_line_each two_units (0 ∷ 1 ∷ []) ≡ three_turns
   pub who_gave_up : map (gave_up three_turns) (range_with_len 0 3) ≡ true ∷ false ∷ false ∷ []
-  pub failures : map (λ i. failures_of i three_turns) (range_with_len 0 3) ≡ 2 ∷ 0 ∷ 0 ∷ []
+  pub failures : map (λ i. failure_count i three_turns) (range_with_len 0 3) ≡ 2 ∷ 0 ∷ 0 ∷ []
   pub attempts : map (λ k. attempt_pulls 1 (front_of k)) (1 ∷ 2 ∷ 3 ∷ 5 ∷ [])
       ≡ (three_of (codes "b") 0 ∷ []) ∷ (three_of (codes "b") 0 ∷ []) ∷ [] ∷ (three_of (codes "b") 0 ∷ []) ∷ []
   pub last_ones : map (λ k. last_attempt (front_of k)) (2 ∷ 3 ∷ 4 ∷ [])
       ≡ front_of 2 ∷ [] ∷ (pulls 0 (three_of (codes "a") 3) ∷ []) ∷ []
-  pub left : map (λ k. numbers_of (units_left 5 two_listed (front_of k))) (0 ∷ 5 ∷ 6 ∷ 7 ∷ 8 ∷ [])
+  pub left : map (λ k. unit_numbers (units_left 5 two_listed (front_of k))) (0 ∷ 5 ∷ 6 ∷ 7 ∷ 8 ∷ [])
       ≡ (0 ∷ 1 ∷ []) ∷ (0 ∷ 1 ∷ []) ∷ (1 ∷ []) ∷ (1 ∷ []) ∷ [] ∷ []
-  pub left_of_failing : map (λ retries. numbers_of (units_left retries two_listed (front_of 3))) (0 ∷ 1 ∷ [])
+  pub left_of_failing : map (λ retries. unit_numbers (units_left retries two_listed (front_of 3))) (0 ∷ 1 ∷ [])
       ≡ (0 ∷ []) ∷ (0 ∷ 1 ∷ []) ∷ []
-  pub unlisted : numbers_of
+  pub unlisted : unit_numbers
       (listed_units job [] (fresh [] 0 1 ∷ record (fresh [] 0 1) { listed = false } ∷ fresh [] 1 2 ∷ []))
       ≡ 0 ∷ 2 ∷ []
   pub faults : map is_fault

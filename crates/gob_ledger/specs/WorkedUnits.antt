@@ -11,7 +11,7 @@ use Rattle.gob_ledger.specs.Marks.{times_covered}
 use Rattle.gob_ledger.specs.Units.{cut_end, cuts, first_shrunk, fresh_in, in_rounds, is_kept, is_listed}
 use Rattle.gob_ledger.specs.Units.{is_short}
 use Rattle.gob_ledger.specs.Units.{next_of, range_count, same_span, same_unit, too_long, units_of_parts}
-use Rattle.gob_ledger.specs.Examples.{done, fresh, kill_marks, killed_unit, span}
+use Rattle.gob_ledger.specs.Examples.{range_done, fresh, kill_marks, killed_unit, span}
 
 -- a name of so many letters
 abbrev pub letters : ℕ → List ℕ
@@ -24,8 +24,8 @@ of_web = record { prefix = codes "web"; max_bytes = 2; max_new_units = 2 }
 -- two partitions of which something was taken, and what of them is owed
 abbrev pub two_known : Table Marks
 two_known =
-    (codes "a", record { next = 6; finished = done 2 4 ∷ []; owed = span 0 2 ∷ span 4 6 ∷ [] })
-    ∷ (codes "web/b", record { next = 4; finished = done 0 2 ∷ []; owed = span 2 4 ∷ [] })
+    (codes "a", record { next = 6; finished = range_done 2 4 ∷ []; owed = span 0 2 ∷ span 4 6 ∷ [] })
+    ∷ (codes "web/b", record { next = 4; finished = range_done 0 2 ∷ []; owed = span 2 4 ∷ [] })
     ∷ []
 
 -- two partitions that grew, and a new one
@@ -38,8 +38,8 @@ abbrev pub three_ends : List ℕ
 three_ends = 3 ∷ 12 ∷ 14 ∷ []
 
 -- an owed range of a unit of a run
-abbrev pub owed : List ℕ → ℕ → ℕ → Bool → WorkUnit
-owed part lo hi listed = record { part = part; lo = lo; hi = hi; fresh = false; listed = listed }
+abbrev pub whole_owed_unit : List ℕ → ℕ → ℕ → Bool → WorkUnit
+whole_owed_unit part lo hi listed = record { part = part; lo = lo; hi = hi; fresh = false; listed = listed }
 
 -- ranges that touch, ranges that overlap, and an empty one
 pub record WorkedRanges : Type 0 where
@@ -90,10 +90,10 @@ pub record WorkedPartitions : Type 0 where
 -- the owed ranges first, and then as many new ones as there may be
 pub record WorkedOrder : Type 0 where
   pub owed_first : units_of_parts two_known three_held of_web
-      ≡ owed (codes "a") 0 2 false ∷ owed (codes "a") 4 6 false ∷ owed (codes "web/b") 2 4 true
+      ≡ whole_owed_unit (codes "a") 0 2 false ∷ whole_owed_unit (codes "a") 4 6 false ∷ whole_owed_unit (codes "web/b") 2 4 true
       ∷ fresh (codes "web/b") 4 6 ∷ fresh (codes "web/c") 0 2 ∷ []
   pub more_at_once : units_of_parts two_known three_held (record of_web { max_new_units = 3; max_bytes = 4 })
-      ≡ owed (codes "a") 0 2 false ∷ owed (codes "a") 4 6 false ∷ owed (codes "web/b") 2 4 true
+      ≡ whole_owed_unit (codes "a") 0 2 false ∷ whole_owed_unit (codes "a") 4 6 false ∷ whole_owed_unit (codes "web/b") 2 4 true
       ∷ fresh (codes "web/b") 4 8 ∷ fresh (codes "web/c") 0 4 ∷ fresh (codes "web/b") 8 10 ∷ []
   pub new_of_one : fresh_in (codes "web/b") (units_of_parts two_known three_held of_web)
       ≡ fresh (codes "web/b") 4 6 ∷ []

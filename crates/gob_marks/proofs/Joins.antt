@@ -7,7 +7,7 @@ use Rattle.std.proofs.lemmas.Bool.Decides.{nat_tests}
 use Rattle.std.proofs.Math.Seq.{drop-append_seam}
 use Rattle.gob_ledger.specs.Marks.{Marks, Span, Done, Tiled, InOrder, is_done}
 use Rattle.gob_ledger.proofs.Ranges.{one_in, times, times-append, covered-is, spans, order_from}
-use Rattle.gob_marks.specs.Joined.{FollowEachOther, Fill, Joins, FillsFront, pipeline_of}
+use Rattle.gob_marks.specs.Joined.{FollowEachOther, Fill, Joins, FillsFront, first_pipeline}
 use Rattle.gob_marks.specs.Places.{begun_by}
 use Rattle.gob_marks.proofs.Places.{spans-append, spans-length, begun-behind}
 use Rattle.gob_marks.proofs.Tiles.{done-at}
@@ -46,7 +46,7 @@ fill_place s ds f order = place f.inside f.several f.fill f.parted
         ∙ ap suc (spans-length f.before)
 
 fill-pipeline : (p lo hi : ℕ) (inside behind : List Done) → 2 ≤ length inside → FollowEachOther p lo hi inside
-    → p ≡ pipeline_of (inside ++ behind)
+    → p ≡ first_pipeline (inside ++ behind)
 fill-pipeline p lo hi [] behind several fill = absurd (omega (arith, several))
 fill-pipeline p lo hi (d ∷ ds) behind several fill = sym fill.1
 
@@ -62,8 +62,8 @@ fill-few s ds first count order begun front few f =
     let parted : drop first ds ≡ f.inside ++ f.behind =
     ap (λ n. drop n ds) (sym place) ∙ ap (drop (length f.before)) f.parted
     ∙ drop-append_seam f.before (f.inside ++ f.behind) in
-    let pipeline : f.pipeline ≡ pipeline_of (drop first ds) =
-    fill-pipeline f.pipeline s.lo s.hi f.inside f.behind f.several f.fill ∙ ap pipeline_of (sym parted) in
+    let pipeline : f.pipeline ≡ first_pipeline (drop first ds) =
+    fill-pipeline f.pipeline s.lo s.hi f.inside f.behind f.several f.fill ∙ ap first_pipeline (sym parted) in
     let same : count ≡ length f.inside =
     front.only f.inside f.behind parted (omega (arith, f.several))
     (subst (λ p. FollowEachOther p s.lo s.hi f.inside) pipeline f.fill) in
@@ -76,7 +76,7 @@ fill_from s ds first count front several = record {
   before = take first ds;
   inside = take count (drop first ds);
   behind = drop (first + count) ds;
-  pipeline = pipeline_of (drop first ds);
+  pipeline = first_pipeline (drop first ds);
   parted = sym (take-append-drop first ds)
       ∙ ap (λ es. take first ds ++ es)
       (sym (take-append-drop count (drop first ds))
@@ -88,7 +88,7 @@ fill_from s ds first count front several = record {
 pub joins_from : (m : Marks) (s : Span) (first count : ℕ) → FillsFront s (drop first m.finished) count → 2 ≤ count
     → Joins s m (record m {
       finished =
-          take first m.finished ++ record { span = s; pipeline = pipeline_of (drop first m.finished) } ∷ drop
+          take first m.finished ++ record { span = s; pipeline = first_pipeline (drop first m.finished) } ∷ drop
           (first + count) m.finished;
     })
 joins_from m s first count front several =

@@ -5,7 +5,7 @@ use Rattle.std.proofs.lemmas.List.{take-append-drop, length-take-le}
 use Rattle.std.proofs.Math.Seq.{take-suc, drop-cons, drop-length}
 use Rattle.gob_ledger.specs.Marks.{Span, Done, InOrder}
 use Rattle.gob_ledger.proofs.Ranges.{spans}
-use Rattle.gob_marks.specs.Joined.{FollowEachOther, FillsFront, pipeline_of}
+use Rattle.gob_marks.specs.Joined.{FollowEachOther, FillsFront, first_pipeline}
 
 -- where two splits of a list meet
 pub split_cases : {X : Type 0} (xs ys vs ws : List X) → xs ++ ys ≡ vs ++ ws
@@ -67,7 +67,7 @@ never_short p q lo h end from walked inside c order follow fill is =
 -- a walk over the ranges at the front that has come to a place, and to an offset there, short of the range's end
 pub record Walked (s : Span) (ds : List Done) (at hi : ℕ) : Type 0 where
   pub within : at ≤ length ds
-  pub follow : FollowEachOther (pipeline_of ds) s.lo hi (take at ds)
+  pub follow : FollowEachOther (first_pipeline ds) s.lo hi (take at ds)
   pub short : 0 < at → hi < s.hi
 
 pub walk_begins : (s : Span) (ds : List Done) → Walked s ds 0 s.lo
@@ -80,13 +80,13 @@ record GoesOn (s : Span) (ds : List Done) (at hi : ℕ) (inside behind : List Do
   pub is : inside ≡ take at ds ++ first ∷ rest
   pub here : drop at ds ≡ first ∷ (rest ++ behind)
   pub lo : first.span.lo ≡ hi
-  pub pipeline : first.pipeline ≡ pipeline_of ds
-  pub fill : FollowEachOther (pipeline_of ds) first.span.hi s.hi rest
+  pub pipeline : first.pipeline ≡ first_pipeline ds
+  pub fill : FollowEachOther (first_pipeline ds) first.span.hi s.hi rest
   pub order : InOrder first.span.hi (spans rest)
 
 goes_on : (s : Span) (ds : List Done) (at hi : ℕ) (inside behind : List Done) → InOrder 0 (spans ds)
     → Walked s ds at hi → ds ≡ inside ++ behind → 0 < length inside
-    → FollowEachOther (pipeline_of ds) s.lo s.hi inside → GoesOn s ds at hi inside behind
+    → FollowEachOther (first_pipeline ds) s.lo s.hi inside → GoesOn s ds at hi inside behind
 goes_on s ds at hi inside behind order walked parted some fill =
     ⊎_elim
     (λ p. absurd (front p.0 p.1))
@@ -94,7 +94,7 @@ goes_on s ds at hi inside behind order walked parted some fill =
     (split_cases inside behind (take at ds) (drop at ds) (sym parted ∙ sym (take-append-drop at ds)))
   where
     p : ℕ
-    p = pipeline_of ds
+    p = first_pipeline ds
 
     whole : take at ds ++ drop at ds ≡ ds
     whole = take-append-drop at ds
@@ -144,7 +144,7 @@ here_is s ds at hi inside behind d below is g =
 
 no_front : (s : Span) (ds : List Done)
     → ((inside behind : List Done) → ds ≡ inside ++ behind → 0 < length inside
-    → FollowEachOther (pipeline_of ds) s.lo s.hi inside → ⊥) → FillsFront s ds 0
+    → FollowEachOther (first_pipeline ds) s.lo s.hi inside → ⊥) → FillsFront s ds 0
 no_front s ds none = record {
   within = omega arith;
   fill = λ some. absurd (omega (arith, some));
@@ -153,7 +153,7 @@ no_front s ds none = record {
 
 -- the walk stops at a range that begins elsewhere or is of another pipeline
 pub stops_apart : (s : Span) (ds : List Done) (at hi : ℕ) (d : Done) → InOrder 0 (spans ds) → Walked s ds at hi
-    → at < length ds → d ≡ get_or ds at d → (d.span.lo ≡ hi → d.pipeline ≡ pipeline_of ds → ⊥) → FillsFront s ds 0
+    → at < length ds → d ≡ get_or ds at d → (d.span.lo ≡ hi → d.pipeline ≡ first_pipeline ds → ⊥) → FillsFront s ds 0
 stops_apart s ds at hi d order walked below is differs = no_front s ds (λ inside behind parted some fill.
     let g = goes_on s ds at hi inside behind order walked parted some fill in
     let same = here_is s ds at hi inside behind d below is g in
@@ -167,7 +167,7 @@ stops_past s ds at hi d order walked below is past = no_front s ds (λ inside be
     let same = here_is s ds at hi inside behind d below is g in
     let end : g.first.span.hi ≡ d.span.hi = ap (λ (e : Done). e.span.hi) same in
     let low : g.first.span.hi ≤ s.hi =
-    follow_low (pipeline_of ds) g.first.span.hi g.first.span.hi s.hi g.rest g.order g.fill in
+    follow_low (first_pipeline ds) g.first.span.hi g.first.span.hi s.hi g.rest g.order g.fill in
     omega (arith, end, low, past))
 
 -- or where no range is left
@@ -181,12 +181,12 @@ stops_none s ds at hi order walked end = no_front s ds (λ inside behind parted 
 
 -- or at the end
 pub stops_there : (s : Span) (ds : List Done) (at hi : ℕ) (d : Done) → InOrder 0 (spans ds) → Walked s ds at hi
-    → at < length ds → d ≡ get_or ds at d → d.span.lo ≡ hi → d.pipeline ≡ pipeline_of ds → d.span.hi ≡ s.hi
+    → at < length ds → d ≡ get_or ds at d → d.span.lo ≡ hi → d.pipeline ≡ first_pipeline ds → d.span.hi ≡ s.hi
     → FillsFront s ds (at + 1)
 stops_there s ds at hi d order walked below is lo pipeline end = record {
   within = omega (arith, below);
-  fill = λ some. subst (FollowEachOther (pipeline_of ds) s.lo s.hi) (sym taken)
-      (follow_more (pipeline_of ds) s.lo hi s.hi (take at ds) (d ∷ []) walked.follow (lo, pipeline, end));
+  fill = λ some. subst (FollowEachOther (first_pipeline ds) s.lo s.hi) (sym taken)
+      (follow_more (first_pipeline ds) s.lo hi s.hi (take at ds) (d ∷ []) walked.follow (lo, pipeline, end));
   only = λ inside behind parted some fill.
       let g = goes_on s ds at hi inside behind order walked parted some fill in
       let same = here_is s ds at hi inside behind d below is g in
@@ -201,25 +201,25 @@ stops_there s ds at hi d order walked below is lo pipeline end = record {
     taken = ap (λ n. take n ds) (add-one at) ∙ take-suc ds at d below ∙ ap (λ e. take at ds ++ e ∷ []) (sym is)
 
     nothing_more : (rest : List Done) (from : ℕ) → from ≡ s.hi → InOrder from (spans rest)
-        → FollowEachOther (pipeline_of ds) from s.hi rest → length rest ≡ 0
+        → FollowEachOther (first_pipeline ds) from s.hi rest → length rest ≡ 0
     nothing_more [] from e ordered fill = refl
     nothing_more (r ∷ rs) from e ordered fill =
-        absurd (omega (arith, e, follow_some (pipeline_of ds) from from s.hi r rs ordered fill))
+        absurd (omega (arith, e, follow_some (first_pipeline ds) from from s.hi r rs ordered fill))
 
 -- or goes on
 pub walks_on : (s : Span) (ds : List Done) (at hi : ℕ) (d : Done) → Walked s ds at hi → at < length ds
-    → d ≡ get_or ds at d → d.span.lo ≡ hi → d.pipeline ≡ pipeline_of ds → d.span.hi < s.hi
+    → d ≡ get_or ds at d → d.span.lo ≡ hi → d.pipeline ≡ first_pipeline ds → d.span.hi < s.hi
     → Walked s ds (at + 1) d.span.hi
 walks_on s ds at hi d walked below is lo pipeline before = record {
   within = omega (arith, below);
-  follow = subst (FollowEachOther (pipeline_of ds) s.lo d.span.hi) (sym taken)
-      (follow_more (pipeline_of ds) s.lo hi d.span.hi (take at ds) (d ∷ []) walked.follow (lo, pipeline, refl));
+  follow = subst (FollowEachOther (first_pipeline ds) s.lo d.span.hi) (sym taken)
+      (follow_more (first_pipeline ds) s.lo hi d.span.hi (take at ds) (d ∷ []) walked.follow (lo, pipeline, refl));
   short = λ some. before;
 }
   where
     taken : take (at + 1) ds ≡ take at ds ++ d ∷ []
     taken = ap (λ n. take n ds) (add-one at) ∙ take-suc ds at d below ∙ ap (λ e. take at ds ++ e ∷ []) (sym is)
 
-pub first-pipeline : (ds : List Done) (d : Done) → 0 < length ds → d ≡ get_or ds 0 d → pipeline_of ds ≡ d.pipeline
+pub first-pipeline : (ds : List Done) (d : Done) → 0 < length ds → d ≡ get_or ds 0 d → first_pipeline ds ≡ d.pipeline
 first-pipeline [] d some is = absurd (omega (arith, some))
 first-pipeline (e ∷ es) d some is = sym (ap (λ (x : Done). x.pipeline) is)

@@ -26,13 +26,13 @@ pub record Joins (s : Span) (old new : Marks) : Type 0 where
   }
 
 -- the pipeline of the first range
-abbrev pub pipeline_of : List Done → ℕ
-pipeline_of [] = 0
-pipeline_of (d ∷ ds) = d.pipeline
+abbrev pub first_pipeline : List Done → ℕ
+first_pipeline [] = 0
+first_pipeline (d ∷ ds) = d.pipeline
 
 -- so many ranges at the front fill this range, all of the first one's pipeline; 0 where no number of them does
 pub record FillsFront (s : Span) (ds : List Done) (count : ℕ) : Type 0 where
   pub within : count ≤ length ds
-  pub fill : 0 < count → FollowEachOther (pipeline_of ds) s.lo s.hi (take count ds)
+  pub fill : 0 < count → FollowEachOther (first_pipeline ds) s.lo s.hi (take count ds)
   pub only : (inside behind : List Done) → ds ≡ inside ++ behind → 0 < length inside
-      → FollowEachOther (pipeline_of ds) s.lo s.hi inside → count ≡ length inside
+      → FollowEachOther (first_pipeline ds) s.lo s.hi inside → count ≡ length inside

@@ -2,7 +2,7 @@
 
 ghost use Rattle.std.specs.Prelude.{◌≡◌, ◌<◌, ◌≤◌, ◌↔◌, ◌+◌, ◌++◌, ◌∷◌, drop, length, map, take, vec_len, IsTrue};
 ghost use Rattle.gob_ledger.specs.Marks.{InOrder};
-ghost use Rattle.gob_marks.specs.Joined.{FillsFront, pipeline_of};
+ghost use Rattle.gob_marks.specs.Joined.{FillsFront, first_pipeline};
 
 use crate::{Done, Range};
 
@@ -57,7 +57,7 @@ pub fn make_one(ranges: &mut Vec<Done>, first: usize, count: usize, range: Range
     requires some { 0 < count }
     requires within { first + count ≤ vec_len ranges.old }
     ensures { ranges.new.items ≡ take first ranges.old.items
-        ++ record { span = range; pipeline = pipeline_of (drop first ranges.old.items) }
+        ++ record { span = range; pipeline = first_pipeline (drop first ranges.old.items) }
         ∷ drop (first + count) ranges.old.items }
 {
     let left = ranges.len() + 1 - count;

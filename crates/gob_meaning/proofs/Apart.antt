@@ -13,8 +13,8 @@ use Rattle.std.proofs.lemmas.List.Folds.{list_any-append}
 use Rattle.std.proofs.lemmas.Str.Parse.{IsNumeralModel, numerals_by_value, tells_all_ascii_digits}
 use Rattle.std.proofs.lemmas.Fmt.{digits_decimal}
 use Rattle.percent_encoding.specs.Percent.{percent_encode_byte}
-use Rattle.gob_bytes.specs.Digits.{padded, offset}
-use Rattle.gob_bytes.specs.Escapes.{is_plain, escaped}
+use Rattle.gob_bytes.specs.Digits.{padded_digits, offset}
+use Rattle.gob_bytes.specs.Escapes.{is_plain, escape_of}
 use Rattle.gob_bytes.proofs.Forms.{one_form, escapes_apart, offsets_one_form, own}
 use Rattle.gob_plan.specs.declared.plan.Format.{Format}
 use Rattle.gob_plan.specs.declared.plan.Format.TheVariants as format
@@ -92,10 +92,10 @@ decimal_apart m n small small' same =
     let second = (one_form (decimal m) n).1 (same, small') in
     cc
 
-padded_lacks : (c k n : ℕ) → (c < 48) ⊎ (57 < c) → Lacks c (padded k n)
-unfolding padded
+padded_lacks : (c k n : ℕ) → (c < 48) ⊎ (57 < c) → Lacks c (padded_digits k n)
+unfolding padded_digits
 padded_lacks c zero n apart = refl
-padded_lacks c (suc k) n apart = lacks_both c (padded k (n / 10)) ((48 + n % 10) ∷ [])
+padded_lacks c (suc k) n apart = lacks_both c (padded_digits k (n / 10)) ((48 + n % 10) ∷ [])
     (padded_lacks c k (n / 10) apart) (lacks-cons c (48 + n % 10) []
     (ne_eqb (48 + n % 10) c (λ e. absurd (not_digit c (n % 10) (omega arith) apart e))) refl)
   where
@@ -111,16 +111,16 @@ no_at_digit : (d : ℕ) → d < 16 → nat_eq (digit_glyph true d) 64 ≡ false
 no_at_digit d small = agree_below_at (λ x. nat_eq (digit_glyph true x) 64) (λ x. false) 16 d refl small
 
 escaped_lacks : (c : ℕ) → is_plain c ≡ false → nat_eq 37 c ≡ false
-    → ((d : ℕ) → d < 16 → nat_eq (digit_glyph true d) c ≡ false) → (bs : List ℕ) → Lacks c (escaped bs)
-unfolding escaped percent_encode_byte
+    → ((d : ℕ) → d < 16 → nat_eq (digit_glyph true d) c ≡ false) → (bs : List ℕ) → Lacks c (escape_of bs)
+unfolding escape_of percent_encode_byte
 escaped_lacks c odd sign digit [] = refl
 escaped_lacks c odd sign digit (b ∷ bs) =
-    cond_both (is_plain b) (b ∷ []) (percent_encode_byte b) (λ x. Lacks c (x ++ escaped bs))
-    (λ plain. lacks-cons c b (escaped bs) (ne_eqb b c (λ e. true≢false (sym plain ∙ ap is_plain e ∙ odd)))
+    cond_both (is_plain b) (b ∷ []) (percent_encode_byte b) (λ x. Lacks c (x ++ escape_of bs))
+    (λ plain. lacks-cons c b (escape_of bs) (ne_eqb b c (λ e. true≢false (sym plain ∙ ap is_plain e ∙ odd)))
     (escaped_lacks c odd sign digit bs))
-    (λ _. lacks-cons c 37 (digit_glyph true (b / 16 % 16) ∷ digit_glyph true (b % 16) ∷ escaped bs) sign
-    (lacks-cons c (digit_glyph true (b / 16 % 16)) (digit_glyph true (b % 16) ∷ escaped bs)
-    (digit (b / 16 % 16) (omega arith)) (lacks-cons c (digit_glyph true (b % 16)) (escaped bs)
+    (λ _. lacks-cons c 37 (digit_glyph true (b / 16 % 16) ∷ digit_glyph true (b % 16) ∷ escape_of bs) sign
+    (lacks-cons c (digit_glyph true (b / 16 % 16)) (digit_glyph true (b % 16) ∷ escape_of bs)
+    (digit (b / 16 % 16) (omega arith)) (lacks-cons c (digit_glyph true (b % 16)) (escape_of bs)
     (digit (b % 16) (omega arith)) (escaped_lacks c odd sign digit bs))))
 
 extension_lacks : (f : Format) → Lacks 47 (extension f)
@@ -137,13 +137,13 @@ branch_extension_lacks plan b = of (slice_get plan.branches b)
 
 -- the range's name, read from its front
 range_parts : (part : List ℕ) (lo hi : ℕ) (ext : List ℕ) → range_name part lo hi ext
-    ≡ escaped part ++ 64 ∷ (offset lo ++ 45 ∷ (offset hi ++ 46 ∷ ext))
+    ≡ escape_of part ++ 64 ∷ (offset lo ++ 45 ∷ (offset hi ++ 46 ∷ ext))
 range_parts part lo hi ext = simp append_assoc
 
 range_lacks : (part : List ℕ) (lo hi : ℕ) (ext : List ℕ) → Lacks 47 ext → Lacks 47 (range_name part lo hi ext)
 unfolding offset
 range_lacks part lo hi ext lacks = rw (range_parts part lo hi ext)
-    (lacks_both 47 (escaped part) _ (escaped_lacks 47 refl refl no_slash_digit part)
+    (lacks_both 47 (escape_of part) _ (escaped_lacks 47 refl refl no_slash_digit part)
     (lacks-cons 47 64 (offset lo ++ 45 ∷ (offset hi ++ 46 ∷ ext)) refl
     (lacks_both 47 (offset lo) (45 ∷ (offset hi ++ 46 ∷ ext)) (padded_lacks 47 20 lo (inl (omega arith)))
     (lacks-cons 47 45 (offset hi ++ 46 ∷ ext) refl
@@ -154,7 +154,7 @@ range_apart : (part part' : List ℕ) (lo lo' hi hi' : ℕ) (ext ext' : List ℕ
     → IsRange part' lo' hi' → range_name part lo hi ext ≡ range_name part' lo' hi' ext' → (part ≡ part') × (lo ≡ lo')
     × (hi ≡ hi')
 range_apart part part' lo lo' hi hi' ext ext' range range' same =
-    let front = parted 64 (escaped part) (escaped part') _ _ (escaped_lacks 64 refl refl no_at_digit part)
+    let front = parted 64 (escape_of part) (escape_of part') _ _ (escaped_lacks 64 refl refl no_at_digit part)
     (escaped_lacks 64 refl refl no_at_digit part')
     (sym (range_parts part lo hi ext) ∙ same ∙ range_parts part' lo' hi' ext') in
     let first = parted_at (offset lo) (offset lo') _ _ (offsets_one_form.0 lo ∙ sym (offsets_one_form.0 lo')) front.1 in

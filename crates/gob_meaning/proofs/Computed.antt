@@ -8,7 +8,7 @@ use Rattle.percent_encoding.specs.Percent.{percent_encode_byte}
 use Rattle.csv.proofs.OnLiterals.{csv_on_literals}
 use Rattle.csv.specs.Writing.{escaped, fields_text, is_blank}
 use Rattle.serde_json.proofs.OnLiterals.{serde_json_on_literals}
-use Rattle.gob_bytes.specs.Digits.{padded, offset}
+use Rattle.gob_bytes.specs.Digits.{padded_digits, offset}
 use Rattle.gob_bytes.specs.Escapes as name
 use Rattle.gob_bytes.specs.Numbers.{integer_read}
 use Rattle.gob_plan.specs.Columns.{is_columns}
@@ -37,8 +37,8 @@ use Rattle.gob_meaning.specs.TablesOfSteps.{ColumnsTable, RowsTable, PiecesTable
 
 -- what a table unfolds to compute
 unfoldable pub on_literals : ⊤
-unfolding encode digits is_utf8 chars csv_on_literals escaped fields_text is_blank serde_json_on_literals padded
-    offset name.escaped percent_encode_byte integer_read is_columns conforms test_holds test_fits date_of line_rows
+unfolding encode digits is_utf8 chars csv_on_literals escaped fields_text is_blank serde_json_on_literals padded_digits
+    offset name.escape_of percent_encode_byte integer_read is_columns conforms test_holds test_fits date_of line_rows
     record_of columns_after step_rows ruling picks place_of made_in_branch line_made unit_fold sent_to counts_of
     stop_of before_stop sum_of is_fitting verdict_of warnings_of target_name
 on_literals = tt

@@ -5,7 +5,7 @@ use Rattle.std.specs.List.{list_all, enumerate_from, flat_map}
 use Rattle.std.specs.Str.{bytes_eq}
 use Rattle.std.proofs.lemmas.Bool.{cond_both, and_parts, and_from, eqb-true, lt-ltb, ltb-true}
 use Rattle.std.proofs.lemmas.Slice.Eq.{bytes_eq-Decides}
-use Rattle.gob_bytes.specs.Digits.{padded}
+use Rattle.gob_bytes.specs.Digits.{padded_digits}
 use Rattle.gob_bytes.specs.Lines.{Line, lines, raw_of, text_of}
 use Rattle.gob_convert.specs.Made.{Made, concatenation, made_each, then_each, all_made}
 use Rattle.gob_plan.specs.Rows.{value_of}
@@ -62,7 +62,7 @@ folder_push (a ∷ []) = refl
 folder_push (a ∷ b ∷ x) = folder_push (b ∷ x)
 
 date_placed : (date : Date) → is_folder (date_folder date) ≡ true
-date_placed date = folder_push (padded 4 date.year ++ 47 ∷ padded 2 date.month ++ 47 ∷ padded 2 date.day)
+date_placed date = folder_push (padded_digits 4 date.year ++ 47 ∷ padded_digits 2 date.month ++ 47 ∷ padded_digits 2 date.day)
 
 day_placed : (v : Value) → is_folder (day_folder v) ≡ true
 day_placed value.Null = refl

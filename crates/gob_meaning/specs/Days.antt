@@ -1,7 +1,7 @@
 -- Dates by day number, where day 0 is 1 January 1970, and the folder of a second's day.
 use Rattle.std.specs.Prelude.{◌≡◌, ℕ, ◌+◌, ◌-◌, ◌*◌, ◌/◌, ◌%◌, nat_lt, nat_le, if◌then◌else◌, ℤ, pos, negsuc, List, []}
 use Rattle.std.specs.Prelude.{◌∷◌, ◌++◌, codes}
-use Rattle.gob_bytes.specs.Digits.{padded}
+use Rattle.gob_bytes.specs.Digits.{padded_digits}
 use Rattle.gob_plan.specs.declared.rows.Value.{Value}
 use Rattle.gob_plan.specs.declared.rows.Value.TheVariants as value
 use Rattle.jiff_core.specs.Calendar.{IsCivilDate, days_from_civil}
@@ -40,7 +40,7 @@ last_second = 253402300799
 
 -- four, two and two digits, each with a '/'
 abbrev pub date_folder : Date → List ℕ
-date_folder date = padded 4 date.year ++ 47 ∷ padded 2 date.month ++ 47 ∷ padded 2 date.day ++ 47 ∷ []
+date_folder date = padded_digits 4 date.year ++ 47 ∷ padded_digits 2 date.month ++ 47 ∷ padded_digits 2 date.day ++ 47 ∷ []
 
 -- where what has no day is placed
 abbrev pub no_day : List ℕ

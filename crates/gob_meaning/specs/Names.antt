@@ -4,7 +4,7 @@ use Rattle.std.specs.Option.{option_map, unwrap_or}
 use Rattle.std.specs.List.{slice_get}
 use Rattle.std.specs.Fmt.{decimal}
 use Rattle.gob_bytes.specs.Digits.{offset}
-use Rattle.gob_bytes.specs.Escapes.{escaped}
+use Rattle.gob_bytes.specs.Escapes.{escape_of}
 use Rattle.gob_plan.specs.declared.plan.Format.{Format}
 use Rattle.gob_plan.specs.declared.plan.Format.TheVariants as format
 use Rattle.gob_plan.specs.declared.plan.Plan.{Plan}
@@ -22,7 +22,7 @@ branch_extension plan b = unwrap_or (option_map (λ s. extension s.format) (slic
 
 -- of a range of a partition
 abbrev pub range_name : List ℕ → ℕ → ℕ → List ℕ → List ℕ
-range_name part lo hi ext = escaped part ++ 64 ∷ offset lo ++ 45 ∷ offset hi ++ 46 ∷ ext
+range_name part lo hi ext = escape_of part ++ 64 ∷ offset lo ++ 45 ∷ offset hi ++ 46 ∷ ext
 
 -- the name of a target, without the job's folder
 unfoldable pub target_name : Plan → List ℕ → ℕ → ℕ → Target → List ℕ

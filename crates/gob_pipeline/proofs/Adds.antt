@@ -16,7 +16,7 @@ use Rattle.gob_meaning.specs.Fold.{Delivery, sent_to, same_target}
 use Rattle.gob_pipeline.specs.Made.{Buffers, AddsTo, AreEmpty, AreSlotsFrom, IsSlot, buffer_of, slot_of, place_in}
 use Rattle.gob_pipeline.specs.Made.{is_place}
 use Rattle.gob_pipeline.specs.Made.{is_placed, no_places}
-use Rattle.gob_pipeline.specs.Taking.{with_more}
+use Rattle.gob_pipeline.specs.Taking.{with_bytes_at}
 use Rattle.gob_pipeline.proofs.Targets.{same_by_slot}
 use Rattle.gob_pipeline.proofs.Slots.{slot_at}
 use Rattle.std.proofs.lemmas.List.{length-map, map-set}
@@ -48,7 +48,7 @@ placed_place (err b p) h = h
 placed_place bad h = refl
 
 slot_more : (t : Target) (table : Table (List ℕ)) (bytes : List ℕ) → is_placed t ≡ true → IsSlot (slot_of t) table
-    → IsSlot (slot_of t) (with_more table (place_in t) bytes)
+    → IsSlot (slot_of t) (with_bytes_at table (place_in t) bytes)
 slot_more t table bytes placed s =
     let x = unwrap_or (at_name table (place_in t)) [] ++ bytes in
     record {
@@ -69,10 +69,10 @@ slots_set start (suc n) (t ∷ ts) table all s =
 
 pub slots_more : (b : Buffers) (t : Target) (table : Table (List ℕ)) (bytes : List ℕ) → AreSlotsFrom 0 b
     → is_placed t ≡ true → IsSlot (slot_of t) table
-    → AreSlotsFrom 0 (set b (slot_of t) (with_more table (place_in t) bytes))
+    → AreSlotsFrom 0 (set b (slot_of t) (with_bytes_at table (place_in t) bytes))
 slots_more b t table bytes all placed s =
     let e : slot_of t ≡ 0 + slot_of t = omega arith in
-    let more = with_more table (place_in t) bytes in
+    let more = with_bytes_at table (place_in t) bytes in
     slots_set 0 (slot_of t) b more all (subst (λ k. IsSlot k more) e (slot_more t table bytes placed s))
 
 -- ---- what the buffers have then
@@ -108,10 +108,10 @@ found (t ∷ ts) (suc n) d lt = found ts n d (omega arith)
 
 pub adds_one : (b : Buffers) (d : Target) (table : Table (List ℕ)) (bytes : List ℕ) → slot_of d < length b
     → unwrap_or (slice_get b (slot_of d)) [] ≡ table
-    → AddsTo b (set b (slot_of d) (with_more table (place_in d) bytes)) (record { target = d; bytes = bytes } ∷ [])
+    → AddsTo b (set b (slot_of d) (with_bytes_at table (place_in d) bytes)) (record { target = d; bytes = bytes } ∷ [])
 unfolding sent_to
 adds_one b d table bytes lt is t =
-    got-set b (slot_of d) (with_more table (place_in d) bytes) (slot_of t) (place_in t) lt
+    got-set b (slot_of d) (with_bytes_at table (place_in d) bytes) (slot_of t) (place_in t) lt
     ∙ ap (λ o. cond (nat_eq (slot_of t) (slot_of d)) (unwrap_or o []) (buffer_of b t))
     (at-with_name table (place_in d) (unwrap_or (at_name table (place_in d)) [] ++ bytes) (place_in t))
     ∙ cases (nat_eq (slot_of t) (slot_of d)) refl (bytes_eq (place_in t) (place_in d)) refl

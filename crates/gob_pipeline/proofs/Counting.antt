@@ -14,7 +14,7 @@ use Rattle.gob_meaning.specs.Fold.{saturate_u64, is_written, is_error, branch_co
 use Rattle.gob_plan.specs.declared.units.Counts.{Counts}
 use Rattle.gob_meaning.specs.Fold.{is_record, is_bad, rows_in, unrouted_in}
 use Rattle.gob_meaning.specs.Sums.{both_branches, branch_sums, sum_of}
-use Rattle.gob_pipeline.specs.Taking.{counts_of_line, fold_of_items, one_more, one_line, line_of_end}
+use Rattle.gob_pipeline.specs.Taking.{counts_of_line, fold_of_items, with_one_item, line_folds, line_of_end}
 use Rattle.gob_pipeline.specs.declared.pipeline.LineEnd.{LineEnd}
 use Rattle.gob_pipeline.specs.declared.pipeline.LineEnd.TheVariants as end
 use Rattle.gob_branch.proofs.Joined.{goes_on}
@@ -57,7 +57,7 @@ saturates w k r n e = omega (arith, e)
 
 counting_cons : (made : BranchCounts) (b : ℕ) (x : RowMade) (rest all : List RowMade)
     → of_branch b (x ∷ rest) ≡ x ∷ of_branch b rest → Counting made b (x ∷ rest) all
-    → Counting (one_more made x) b rest all
+    → Counting (with_one_item made x) b rest all
 counting_cons made b x rest all e c = record {
   written = saturates made.written _ (written_in (of_branch b rest)) (written_in (of_branch b (x ∷ rest)))
       (ap written_in e ∙ sum_by-cons _ x (of_branch b rest)) ∙ c.written;
@@ -70,7 +70,7 @@ counting_cons made b x rest all e c = record {
 -- an item of the branch
 pub counting_on : (made : BranchCounts) (b : ℕ) (items : List RowMade) (i : ℕ) (x : RowMade) → i < length items
     → x ≡ get_or items i x → nat_eq x.branch b ≡ true → Counting made b (drop i items) items
-    → Counting (one_more made x) b (drop (i + 1) items) items
+    → Counting (with_one_item made x) b (drop (i + 1) items) items
 counting_on made b items i x lt is here c =
     counting_cons made b x (drop (i + 1) items) items (cond-true _ _ _ here)
     (subst (λ rest. Counting made b rest items) (goes_on items i x lt is) c)
@@ -162,7 +162,7 @@ sums_all g start (b ∷ bs) = ap (λ l. both_branches b (g start) ∷ l) (sums_a
 
 -- the items of a line are all that its branches count
 pub same_branches : (n : ℕ) (l : LineMade) (items : List RowMade) → items_in l ≡ items
-    → map (branch_counts (fold_of_items items)) (range_with_len 0 n) ≡ map (branch_counts (one_line 0 l))
+    → map (branch_counts (fold_of_items items)) (range_with_len 0 n) ≡ map (branch_counts (line_folds 0 l))
     (range_with_len 0 n)
 same_branches n l items e =
     ap (λ is. map (branch_counts (fold_of_items is)) (range_with_len 0 n)) (sym e)
@@ -174,10 +174,10 @@ added_up : (before k counted : ℕ) → k ≡ counted
 added_up before k counted e = omega (arith, e)
 
 pub line_added : (before : Counts) (l : LineMade) (r b n u : ℕ) (branches : List BranchCounts)
-    → r ≡ count_by (λ f. is_record f.made) (one_line 0 l) → b ≡ count_by (λ f. is_bad f.made) (one_line 0 l)
-    → n ≡ sum_by (λ f. rows_in f.made) (one_line 0 l) → u ≡ sum_by (λ f. unrouted_in f.made) (one_line 0 l)
+    → r ≡ count_by (λ f. is_record f.made) (line_folds 0 l) → b ≡ count_by (λ f. is_bad f.made) (line_folds 0 l)
+    → n ≡ sum_by (λ f. rows_in f.made) (line_folds 0 l) → u ≡ sum_by (λ f. unrouted_in f.made) (line_folds 0 l)
     → branches ≡ branch_sums before.branches
-    (map (branch_counts (one_line 0 l)) (range_with_len 0 (length before.branches)))
+    (map (branch_counts (line_folds 0 l)) (range_with_len 0 (length before.branches)))
     → record {
       records = saturate_u64 (before.records + r);
       bad = saturate_u64 (before.bad + b);

@@ -15,9 +15,9 @@ use Rattle.gob_meaning.specs.Fold.{branch_counts, counts_of, stop_of, unit_fold}
 use Rattle.gob_meaning.specs.Laws.{bad_line_count}
 use Rattle.gob_meaning.specs.Sums.{sum_of}
 use Rattle.gob_pipeline.specs.Made.{Buffers}
-use Rattle.gob_pipeline.specs.Machine.{MachineValue, WasFed, Fed, GoesOn, LineTaken, line_start}
-use Rattle.gob_pipeline.specs.Taking.{TakesLine, LineMakes, EndsAt, IsOneLine, counts_of_line, one_line, none_counted}
-use Rattle.gob_pipeline.specs.Taking.{no_counts}
+use Rattle.gob_pipeline.specs.Machine.{MachineValue, WasFed, Fed, MachineGoesOn, LineTaken, line_start}
+use Rattle.gob_pipeline.specs.Taking.{TakesLine, LineMakes, EndsAt, IsOneLine, counts_of_line, line_folds, none_counted}
+use Rattle.gob_pipeline.specs.Taking.{zero_counts}
 use Rattle.gob_pipeline.specs.States.{TakesEnd, state_value}
 use Rattle.gob_pipeline.specs.declared.machine.State.{State}
 use Rattle.gob_pipeline.proofs.Cuts.{fed_nothing, fed_then}
@@ -72,14 +72,14 @@ split_off bytes e (x, y, is, clear, at) =
 -- ---- one line
 
 pub line_passed : (plan : Plan) (old new : MachineValue) (chunk : List ℕ) (c : Cause) (b : Buffers) → IsOneLine chunk
-    → old.stop ≡ Some c → GoesOn old new (length chunk) false → new.stop ≡ old.stop → Fed plan old new chunk b b
+    → old.stop ≡ Some c → MachineGoesOn old new (length chunk) false → new.stop ≡ old.stop → Fed plan old new chunk b b
 line_passed plan old new chunk c b one stopped on stop =
     subst (λ l. Fed plan old new l b b) (sym one.1)
-    (passed_fed plan old new one.0 c b one.2 stopped (subst (λ l. GoesOn old new (length l) false) one.1 on) stop)
+    (passed_fed plan old new one.0 c b one.2 stopped (subst (λ l. MachineGoesOn old new (length l) false) one.1 on) stop)
 
 pub line_ended : (plan : Plan) (old mid : State) (new : MachineValue) (chunk : List ℕ) (before after : Buffers)
     → IsOneLine chunk → old.tally.stop ≡ None → TakesEnd plan old mid chunk before after
-    → GoesOn (state_value old) new (length chunk) false → new.line ≡ mid.line.items → new.stop ≡ mid.tally.stop
+    → MachineGoesOn (state_value old) new (length chunk) false → new.line ≡ mid.line.items → new.stop ≡ mid.tally.stop
     → new.counts ≡ mid.tally.counts → new.bad_left ≡ mid.tally.bad_left
     → Fed plan (state_value old) new chunk before after
 line_ended plan old mid new chunk before after one going t on line stop counts left =
@@ -93,10 +93,10 @@ line_ended plan old mid new chunk before after one going t on line stop counts l
     subst (λ l. Fed plan (state_value old) new l before after) (sym one.1)
     (line_fed plan (state_value old) new one.0 t.made before after one.2 going
     (λ l e. t.makes l (e ∙ ap (λ r. old.line.items ++ r) (sym one.1)))
-    (subst (λ l. GoesOn (state_value old) new (length l) false) one.1 on) (line ∙ t.line) taken)
+    (subst (λ l. MachineGoesOn (state_value old) new (length l) false) one.1 on) (line ∙ t.line) taken)
 
 counts_same : (plan : Plan) (at : ℕ) (l : LineMade)
-    → counts_of_line (length plan.branches) l ≡ counts_of plan (one_line at l)
+    → counts_of_line (length plan.branches) l ≡ counts_of plan (line_folds at l)
 unfolding counts_of
 counts_same plan at l = refl
 
@@ -181,7 +181,7 @@ pub none_length : (n : ℕ) → length (none_counted n) ≡ n
 none_length zero = refl
 none_length (suc n) = ap suc (none_length n)
 
-no_counts_of : (plan : Plan) → no_counts (length plan.branches) ≡ counts_of plan []
+no_counts_of : (plan : Plan) → zero_counts (length plan.branches) ≡ counts_of plan []
 unfolding counts_of
 no_counts_of plan = λ k. record {
   records = 0;
@@ -200,7 +200,7 @@ unfolding stop_of
 nothing_stops plan = refl
 
 pub new_was_fed : (plan : Plan) (m : MachineValue) → m.seen ≡ 0 → m.line ≡ []
-    → m.counts ≡ no_counts (length plan.branches)
+    → m.counts ≡ zero_counts (length plan.branches)
     → m.bad_left ≡ plan.skip_errors → m.stop ≡ None → m.torn ≡ false → m.broken ≡ false → WasFed plan m []
 unfolding Rattle.gob_bytes.specs.Lines.rest_from
 new_was_fed plan m seen line counts left stop torn whole =

@@ -14,7 +14,7 @@ use Rattle.gob_bytes.proofs.Tables.{same_name, two_names, less_apart, less_then,
 use Rattle.gob_meaning.specs.Items.{Target}
 use Rattle.gob_meaning.specs.Fold.{Delivery, sent_to, same_target}
 use Rattle.gob_pipeline.specs.Made.{Buffers, AreSlotsFrom, AreSlots, IsSlot, buffer_of, slot_of, place_in, target_in}
-use Rattle.gob_pipeline.specs.Made.{filled, filled_place, filled_slot, is_placed, is_place, AreEmpty, AddsTo}
+use Rattle.gob_pipeline.specs.Made.{filled_targets, filled_place, filled_slot, is_placed, is_place, AreEmpty, AddsTo}
 use Rattle.gob_pipeline.specs.Laws.{all_apart, has_bytes, IsFilled, FilledBuffersAreSent, PiecesFillBuffers}
 use Rattle.gob_pipeline.proofs.Cuts.{sent-append}
 use Rattle.gob_pipeline.proofs.Targets.{slot_in, place_in_slot, placed_in_slot, same_in_slot, HasPlace, itself}
@@ -126,8 +126,8 @@ sent_at t n (suc k) (table ∷ tables) at slots =
     next h = let e : suc n ≡ n + 1 = omega arith in subst (λ k. AreSlotsFrom k tables) e h
 
 pub filled_sent : (buffers : Buffers) → AreSlots buffers → (t : Target)
-    → sent_to t (filled buffers) ≡ buffer_of buffers t
-unfolding filled
+    → sent_to t (filled_targets buffers) ≡ buffer_of buffers t
+unfolding filled_targets
 filled_sent buffers slots t = sent_at t 0 (slot_of t) buffers (omega arith) slots
 
 -- ---- tests of what is there
@@ -228,7 +228,7 @@ slots_apart n (table ∷ tables) slots =
 -- ---- the laws
 
 pub filled_are_sent : FilledBuffersAreSent
-unfolding filled
+unfolding filled_targets
 filled_are_sent buffers slots = record {
   sent = filled_sent buffers slots;
   placed = all_pass (λ d. is_placed d.target) 0 buffers slots

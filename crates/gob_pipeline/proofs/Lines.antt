@@ -15,7 +15,7 @@ use Rattle.gob_meaning.specs.Laws.{bad_line_count}
 use Rattle.gob_meaning.proofs.Joins.{parts_join}
 use Rattle.gob_pipeline.specs.Made.{Buffers, AddsTo}
 use Rattle.gob_pipeline.specs.Machine.{MachineValue, is_nil, WasFed, sent_before_stop, Sends, Fed, LineTaken}
-use Rattle.gob_pipeline.specs.Machine.{line_start, GoesOn}
+use Rattle.gob_pipeline.specs.Machine.{line_start, MachineGoesOn}
 use Rattle.gob_pipeline.proofs.Chunks.{rest_ends, rest_grows, rest_starts, nil-append, fold_one, fold_none}
 use Rattle.gob_pipeline.proofs.Cuts.{adds_nothing}
 
@@ -100,7 +100,7 @@ sends_line plan old fed x g before after now none left added = record {
 pub line_fed : (plan : Plan) (old new : MachineValue) (x : List ℕ) (l : LineMade) (before after : Buffers)
     → has_no_feed x ≡ true → old.stop ≡ None
     → ((line : Line) → raw_of line ≡ old.line ++ (x ++ 10 ∷ []) → line_made plan (line_start old) line ≡ l)
-    → GoesOn old new (length (x ++ 10 ∷ [])) false → new.line ≡ []
+    → MachineGoesOn old new (length (x ++ 10 ∷ [])) false → new.line ≡ []
     → LineTaken plan old new (line_start old) l before after
     → Fed plan old new (x ++ 10 ∷ []) before after
 line_fed plan old new x l before after clear going made on empty taken = record {
@@ -148,7 +148,7 @@ left_over fed x h = rest-append fed x [] ∙ rest_grows (rest fed) x h
 
 -- they are what is left of a line, with what was left
 pub rest_fed : (plan : Plan) (old new : MachineValue) (x : List ℕ) (b : Buffers) → has_no_feed x ≡ true
-    → GoesOn old new (length x) (old.torn || not (is_nil x)) → new.stop ≡ old.stop → new.counts ≡ old.counts
+    → MachineGoesOn old new (length x) (old.torn || not (is_nil x)) → new.stop ≡ old.stop → new.counts ≡ old.counts
     → new.bad_left ≡ old.bad_left → (old.stop ≡ None → new.line ≡ old.line ++ x) → Fed plan old new x b b
 rest_fed plan old new x b clear on stop counts bad_left line = record {
   lo = on.lo;
@@ -198,7 +198,7 @@ sends_nothing plan lo fed x b same = record {
 
 -- a line that ends there makes nothing more
 pub passed_fed : (plan : Plan) (old new : MachineValue) (x : List ℕ) (c : Cause) (b : Buffers) → has_no_feed x ≡ true
-    → old.stop ≡ Some c → GoesOn old new (length (x ++ 10 ∷ [])) false → new.stop ≡ old.stop
+    → old.stop ≡ Some c → MachineGoesOn old new (length (x ++ 10 ∷ [])) false → new.stop ≡ old.stop
     → Fed plan old new (x ++ 10 ∷ []) b b
 passed_fed plan old new x c b clear stopped on stop = record {
   lo = on.lo;

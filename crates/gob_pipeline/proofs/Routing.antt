@@ -16,7 +16,7 @@ use Rattle.gob_plan.specs.Rows.{conforms}
 use Rattle.gob_convert.specs.Made.{Made, concatenation, made_each}
 use Rattle.gob_meaning.specs.Items.{RowMade, made_in_branch}
 use Rattle.gob_branch.proofs.Joined.{bad_of_joined, made_next}
-use Rattle.gob_pipeline.specs.Routes.{AreBranches, RoutesValue, RowSent, branch_makes, is_routed, is_taken, route_makes}
+use Rattle.gob_pipeline.specs.Routes.{AreNumberedBranches, RoutesValue, RowSent, branch_makes, is_routed, is_taken, route_makes}
 use Rattle.gob_pipeline.specs.Routes.{specs_of, waiting_makes}
 
 -- the branch at a place: its number and its columns, and how its spec stands among the numbered specs
@@ -27,7 +27,7 @@ pub record BranchAt (columns : List Column) (n : ℕ) (bs : List BranchValue) (i
   pub within : i < length (enumerate_from n (specs_of bs))
 
 pub branch_at : (columns : List Column) (n : ℕ) (bs : List BranchValue) (i : ℕ) (b : BranchValue)
-    → AreBranches columns n bs → i < length bs → b ≡ get_or bs i b → BranchAt columns n bs i b
+    → AreNumberedBranches columns n bs → i < length bs → b ≡ get_or bs i b → BranchAt columns n bs i b
 branch_at columns n [] i b are lt is = absurd (omega arith)
 branch_at columns n (c ∷ cs) zero b are lt is = record {
   number = ap (λ (x : BranchValue). x.number) is ∙ (are.0 ∙ omega arith);
@@ -60,7 +60,7 @@ record Stands (r : RoutesValue) (i : ℕ) (b : BranchValue) : Type 0 where
   entry : (b.number, b.spec) ≡ get_or (enumerate_from 0 r.branches) i (b.number, b.spec)
   within : i < length (enumerate_from 0 r.branches)
 
-stands : (r : RoutesValue) (bs : List BranchValue) (i : ℕ) (b : BranchValue) → AreBranches r.columns 0 bs
+stands : (r : RoutesValue) (bs : List BranchValue) (i : ℕ) (b : BranchValue) → AreNumberedBranches r.columns 0 bs
     → specs_of bs ≡ r.branches → i < length bs → b ≡ get_or bs i b → Stands r i b
 stands r bs i b are specs lt is =
     let at = branch_at r.columns 0 bs i b are lt is in
@@ -77,7 +77,7 @@ nothing_more (Some xs) = ap Some (append-nil xs)
 -- a branch that doesn't take it makes nothing
 pub sent_past : (r : RoutesValue) (row : Row) (old now : List RowMade) (bs : List BranchValue)
     (waiting : Option BranchValue) (i : ℕ) (b : BranchValue) → RowSent r row old now waiting i
-    → AreBranches r.columns 0 bs → specs_of bs ≡ r.branches → i < length bs → b ≡ get_or bs i b
+    → AreNumberedBranches r.columns 0 bs → specs_of bs ≡ r.branches → i < length bs → b ≡ get_or bs i b
     → is_taken r row (b.number, b.spec) ≡ false → RowSent r row old now waiting (i + 1)
 sent_past r row old now bs waiting i b so are specs lt is not =
     let at = stands r bs i b are specs lt is in
@@ -104,7 +104,7 @@ sent_past r row old now bs waiting i b so are specs lt is not =
 -- a branch that takes it waits, and the one that waited got it
 pub sent_more : (r : RoutesValue) (row : Row) (old now next : List RowMade) (bs : List BranchValue)
     (waiting : Option BranchValue) (i : ℕ) (b : BranchValue) → RowSent r row old now waiting i
-    → AreBranches r.columns 0 bs → specs_of bs ≡ r.branches → i < length bs → b ≡ get_or bs i b
+    → AreNumberedBranches r.columns 0 bs → specs_of bs ≡ r.branches → i < length bs → b ≡ get_or bs i b
     → conforms r.columns row ≡ true → is_taken r row (b.number, b.spec) ≡ true
     → concatenation (Some now) (waiting_makes waiting row) ≡ Some next → RowSent r row old next (Some b) (i + 1)
 sent_more r row old now next bs waiting i b so are specs lt is fits takes made =
@@ -163,8 +163,8 @@ routed_all r row old now bs waiting i so specs over =
 -- ---- branches that are set up
 
 pub one_more_branch : (columns : List Column) (n k : ℕ) (bs : List BranchValue) (b : BranchValue)
-    → AreBranches columns n bs → k ≡ n + length bs → b.number ≡ k → b.columns ≡ columns
-    → AreBranches columns n (bs ++ b ∷ [])
+    → AreNumberedBranches columns n bs → k ≡ n + length bs → b.number ≡ k → b.columns ≡ columns
+    → AreNumberedBranches columns n (bs ++ b ∷ [])
 one_more_branch columns n k [] b are at number of = (number ∙ (at ∙ omega arith), of, tt)
 one_more_branch columns n k (c ∷ cs) b are at number of =
     (are.0, are.1, one_more_branch columns (n + 1) k cs b are.2 (at ∙ omega arith) number of)

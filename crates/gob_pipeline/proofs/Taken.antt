@@ -13,7 +13,7 @@ use Rattle.gob_plan.specs.declared.units.BranchCounts.{BranchCounts}
 use Rattle.gob_meaning.specs.Fold.{branch_counts}
 use Rattle.gob_meaning.specs.Sums.{branch_sums, sum_of}
 use Rattle.gob_pipeline.specs.Made.{Buffers, AddsTo}
-use Rattle.gob_pipeline.specs.Taking.{TakesLine, LineMakes, counts_of_line, one_line}
+use Rattle.gob_pipeline.specs.Taking.{TakesLine, LineMakes, counts_of_line, line_folds}
 use Rattle.gob_pipeline.specs.declared.tally.Tally.{Tally}
 use Rattle.gob_pipeline.proofs.Cuts.{adds_nothing}
 
@@ -63,4 +63,4 @@ sums_length (b ∷ bs) g start = ap suc (sums_length bs g (start + 1))
 pub counts_length : (old : Counts) (l : LineMade)
     → length (sum_of old (counts_of_line (length old.branches) l)).branches ≡ length old.branches
 unfolding sum_of
-counts_length old l = sums_length old.branches (branch_counts (one_line 0 l)) 0
+counts_length old l = sums_length old.branches (branch_counts (line_folds 0 l)) 0

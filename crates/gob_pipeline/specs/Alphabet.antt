@@ -8,13 +8,13 @@ use Rattle.gob_meaning.specs.Items.{Target, out, err, bad}
 use Rattle.gob_meaning.specs.Names.{branch_extension}
 
 -- a plain byte, '/', '@' or '%'
-abbrev pub is_name_byte : ℕ → Bool
-is_name_byte b = is_plain b || nat_eq b 47 || nat_eq b 64 || nat_eq b 37
+abbrev pub is_target_byte : ℕ → Bool
+is_target_byte b = is_plain b || nat_eq b 47 || nat_eq b 64 || nat_eq b 37
 
 -- at least one byte, and all of them such ones
 abbrev pub is_target_name : List ℕ → Bool
 is_target_name [] = false
-is_target_name (b ∷ bs) = list_all is_name_byte (b ∷ bs)
+is_target_name (b ∷ bs) = list_all is_target_byte (b ∷ bs)
 
 abbrev pub IsTargetName : List ℕ → Type 0
 IsTargetName name = is_target_name name ≡ true

@@ -7,9 +7,9 @@ use Rattle.std.specs.List.{flat_map, list_all}
 use Rattle.gob_plan.specs.declared.plan.Plan.{Plan}
 use Rattle.gob_meaning.specs.Items.{Target, LineMade, line_made}
 use Rattle.gob_meaning.specs.Fold.{Delivery, sent_to, same_target}
-use Rattle.gob_pipeline.specs.Made.{Buffers, AddsTo, AreEmpty, AreSlots, buffer_of, filled, is_placed, slot_of}
+use Rattle.gob_pipeline.specs.Made.{Buffers, AddsTo, AreEmpty, AreSlots, buffer_of, filled_targets, is_placed, slot_of}
 use Rattle.gob_pipeline.specs.Machine.{MachineValue, is_nil, WasFed, sent_before_stop, Fed, LineTaken, line_start}
-use Rattle.gob_pipeline.specs.Machine.{GoesOn}
+use Rattle.gob_pipeline.specs.Machine.{MachineGoesOn}
 
 -- the pieces were fed one after the other, each to the machine that the one before left
 abbrev pub FedAll : Plan → MachineValue → List (List ℕ) → MachineValue → Buffers → Buffers → Type 0
@@ -35,21 +35,21 @@ abbrev pub EndsOfLinesAreFed : Type 0
 EndsOfLinesAreFed = (plan : Plan) (old new : MachineValue) (x : List ℕ) (l : LineMade) (before after : Buffers)
     → has_no_feed x ≡ true → old.stop ≡ None
     → ((line : Line) → raw_of line ≡ old.line ++ (x ++ 10 ∷ []) → line_made plan (line_start old) line ≡ l)
-    → GoesOn old new (length (x ++ 10 ∷ [])) false → new.line ≡ []
+    → MachineGoesOn old new (length (x ++ 10 ∷ [])) false → new.line ≡ []
     → LineTaken plan old new (line_start old) l before after
     → Fed plan old new (x ++ 10 ∷ []) before after
 
 -- bytes that end no line: they are kept behind what was kept
 abbrev pub RestsAreFed : Type 0
 RestsAreFed = (plan : Plan) (old new : MachineValue) (x : List ℕ) (b : Buffers)
-    → has_no_feed x ≡ true → GoesOn old new (length x) (old.torn || not (is_nil x)) → new.stop ≡ old.stop
+    → has_no_feed x ≡ true → MachineGoesOn old new (length x) (old.torn || not (is_nil x)) → new.stop ≡ old.stop
     → new.counts ≡ old.counts → new.bad_left ≡ old.bad_left → (old.stop ≡ None → new.line ≡ old.line ++ x)
     → Fed plan old new x b b
 
 -- the end of a line behind the stop: it is passed over
 abbrev pub BytesBehindAStopAreFed : Type 0
 BytesBehindAStopAreFed = (plan : Plan) (old new : MachineValue) (x : List ℕ) (c : Cause) (b : Buffers)
-    → has_no_feed x ≡ true → old.stop ≡ Some c → GoesOn old new (length (x ++ 10 ∷ [])) false → new.stop ≡ old.stop
+    → has_no_feed x ≡ true → old.stop ≡ Some c → MachineGoesOn old new (length (x ++ 10 ∷ [])) false → new.stop ≡ old.stop
     → Fed plan old new (x ++ 10 ∷ []) b b
 
 -- ---- what is in the buffers
@@ -65,11 +65,11 @@ all_apart (d ∷ ds) = list_all (λ e. not (same_target d.target e.target)) ds &
 -- the targets that have bytes, each once and with all its bytes, have places that a name can have and slots that are
 -- there
 pub record IsFilled (buffers : Buffers) : Type 0 where
-  pub sent : (t : Target) → sent_to t (filled buffers) ≡ buffer_of buffers t
-  pub placed : list_all (λ d. is_placed d.target) (filled buffers) ≡ true
-  pub within : list_all (λ d. nat_lt (slot_of d.target) (length buffers)) (filled buffers) ≡ true
-  pub some : list_all (λ d. has_bytes d.bytes) (filled buffers) ≡ true
-  pub apart : all_apart (filled buffers) ≡ true
+  pub sent : (t : Target) → sent_to t (filled_targets buffers) ≡ buffer_of buffers t
+  pub placed : list_all (λ d. is_placed d.target) (filled_targets buffers) ≡ true
+  pub within : list_all (λ d. nat_lt (slot_of d.target) (length buffers)) (filled_targets buffers) ≡ true
+  pub some : list_all (λ d. has_bytes d.bytes) (filled_targets buffers) ≡ true
+  pub apart : all_apart (filled_targets buffers) ≡ true
 
 abbrev pub FilledBuffersAreSent : Type 0
 FilledBuffersAreSent = (buffers : Buffers) → AreSlots buffers → IsFilled buffers
@@ -78,4 +78,4 @@ FilledBuffersAreSent = (buffers : Buffers) → AreSlots buffers → IsFilled buf
 -- each target what was sent to it
 abbrev pub PiecesFillBuffers : Type 0
 PiecesFillBuffers = (before after : Buffers) (given : List Delivery) → AreEmpty before → AddsTo before after given
-    → AreSlots after → (t : Target) → sent_to t given ≡ sent_to t (filled after)
+    → AreSlots after → (t : Target) → sent_to t given ≡ sent_to t (filled_targets after)

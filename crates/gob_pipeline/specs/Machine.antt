@@ -71,7 +71,7 @@ abbrev pub line_start : MachineValue → ℕ
 line_start m = m.lo + (m.seen - length m.line)
 
 -- the machine went on by so many bytes, behind which this is left of a line
-pub record GoesOn (old new : MachineValue) (bytes : ℕ) (torn_now : Bool) : Type 0 where
+pub record MachineGoesOn (old new : MachineValue) (bytes : ℕ) (torn_now : Bool) : Type 0 where
   pub lo : new.lo ≡ old.lo
   pub seen : new.seen ≡ old.seen + bytes
   pub torn : new.torn ≡ torn_now

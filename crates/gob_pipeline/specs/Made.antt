@@ -43,8 +43,8 @@ abbrev pub emptied_place : List ℕ × List ℕ → List ℕ × List ℕ
 emptied_place e = (e.0, [])
 
 -- the same places, each without a byte
-abbrev pub emptied : Table (List ℕ) → Table (List ℕ)
-emptied table = map emptied_place table
+abbrev pub emptied_table : Table (List ℕ) → Table (List ℕ)
+emptied_table table = map emptied_place table
 
 -- so many slots without a place
 abbrev pub no_places : ℕ → Buffers
@@ -105,5 +105,5 @@ filled_place slot (place, b ∷ bs) = record { target = target_in slot place; by
 abbrev pub filled_slot : ℕ × Table (List ℕ) → List Delivery
 filled_slot e = flat_map (filled_place e.0) e.1
 
-unfoldable pub filled : Buffers → List Delivery
-filled buffers = flat_map filled_slot (enumerate_from 0 buffers)
+unfoldable pub filled_targets : Buffers → List Delivery
+filled_targets buffers = flat_map filled_slot (enumerate_from 0 buffers)

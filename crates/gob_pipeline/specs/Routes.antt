@@ -24,9 +24,9 @@ abbrev pub specs_of : List BranchValue → List BranchSpec
 specs_of bs = map (λ b. b.spec) bs
 
 -- the branches are numbered in order, and take rows of these columns
-abbrev pub AreBranches : List Column → ℕ → List BranchValue → Type 0
-AreBranches columns n [] = Unit {0}
-AreBranches columns n (b ∷ bs) = (b.number ≡ n) × (b.columns ≡ columns) × AreBranches columns (n + 1) bs
+abbrev pub AreNumberedBranches : List Column → ℕ → List BranchValue → Type 0
+AreNumberedBranches columns n [] = Unit {0}
+AreNumberedBranches columns n (b ∷ bs) = (b.number ≡ n) × (b.columns ≡ columns) × AreNumberedBranches columns (n + 1) bs
 
 -- the branch takes the row
 abbrev pub is_taken : RoutesValue → Row → ℕ × BranchSpec → Bool

@@ -35,28 +35,28 @@ LineMakes plan at raw l = (line : Line) → raw_of line ≡ raw → line_made pl
 abbrev pub item_fits : ℕ → RowMade → Bool
 item_fits slots i = nat_lt (2 * i.branch + 2) slots && is_place i.place
 
-abbrev pub one_line : ℕ → LineMade → List Folded
-one_line at l = record { at = at; made = l } ∷ []
+abbrev pub line_folds : ℕ → LineMade → List Folded
+line_folds at l = record { at = at; made = l } ∷ []
 
 -- ---- counts
 
 -- a line with these items, for what branches count
 abbrev pub fold_of_items : List RowMade → List Folded
-fold_of_items items = one_line 0 (made (record { items = items; rows = 0; unrouted = 0 }))
+fold_of_items items = line_folds 0 (made (record { items = items; rows = 0; unrouted = 0 }))
 
 -- what a line counts, for so many branches
 abbrev pub counts_of_line : ℕ → LineMade → Counts
 counts_of_line branches l = record {
-  records = saturate_u64 (count_by (λ f. is_record f.made) (one_line 0 l));
-  bad = saturate_u64 (count_by (λ f. is_bad f.made) (one_line 0 l));
-  rows = saturate_u64 (sum_by (λ f. rows_in f.made) (one_line 0 l));
-  unrouted = saturate_u64 (sum_by (λ f. unrouted_in f.made) (one_line 0 l));
-  branches = map (branch_counts (one_line 0 l)) (range_with_len 0 branches);
+  records = saturate_u64 (count_by (λ f. is_record f.made) (line_folds 0 l));
+  bad = saturate_u64 (count_by (λ f. is_bad f.made) (line_folds 0 l));
+  rows = saturate_u64 (sum_by (λ f. rows_in f.made) (line_folds 0 l));
+  unrouted = saturate_u64 (sum_by (λ f. unrouted_in f.made) (line_folds 0 l));
+  branches = map (branch_counts (line_folds 0 l)) (range_with_len 0 branches);
 }
 
 -- the counts with one item more
-abbrev pub one_more : BranchCounts → RowMade → BranchCounts
-one_more c i = record {
+abbrev pub with_one_item : BranchCounts → RowMade → BranchCounts
+with_one_item c i = record {
   written = saturate_u64 (c.written + (if is_written i.end then 1 else 0));
   errors = saturate_u64 (c.errors + (if is_error i.end then 1 else 0));
   optional = saturate_u64 (c.optional + i.optional);
@@ -69,15 +69,15 @@ pub record TakesLine (plan : Plan) (old new : Tally) (at : ℕ) (raw : List ℕ)
   pub line : LineMade
   pub makes : LineMakes plan at raw line
   pub stop : new.stop ≡ line_stop old.bad_left at line
-  pub added : AddsTo before after (deliveries_of (before_stop_from old.bad_left (one_line at line)))
+  pub added : AddsTo before after (deliveries_of (before_stop_from old.bad_left (line_folds at line)))
   pub counts : new.stop ≡ None → new.counts ≡ sum_of old.counts (counts_of_line (length plan.branches) line)
   pub bad_left : new.stop ≡ None → new.bad_left ≡ left_after old.bad_left line
 
 -- ---- buffers
 
 -- the table with more bytes at the end of what a place has
-abbrev pub with_more : Table (List ℕ) → List ℕ → List ℕ → Table (List ℕ)
-with_more table place bytes = with_name table place (unwrap_or (at_name table place) [] ++ bytes)
+abbrev pub with_bytes_at : Table (List ℕ) → List ℕ → List ℕ → Table (List ℕ)
+with_bytes_at table place bytes = with_name table place (unwrap_or (at_name table place) [] ++ bytes)
 
 -- ---- line feeds
 
@@ -96,6 +96,6 @@ abbrev pub none_counted : ℕ → List BranchCounts
 none_counted zero = []
 none_counted (suc n) = record { written = 0; errors = 0; optional = 0 } ∷ none_counted n
 
-abbrev pub no_counts : ℕ → Counts
-no_counts branches =
+abbrev pub zero_counts : ℕ → Counts
+zero_counts branches =
     record { records = 0; bad = 0; rows = 0; unrouted = 0; branches = none_counted branches }

@@ -1,10 +1,10 @@
 //! Buffers for what the lines of a piece send, one for each target.
 ghost use Rattle.std.specs.Prelude.{◌≡◌, ◌<◌, ◌+◌, ◌*◌, ◌^◌, [], ◌∷◌, true, length, map, Some, IfOk, OnErr, OnOk};
 ghost use Rattle.std.specs.List.{slice_get};
-ghost use Rattle.gob_pipeline.specs.Made.{AddsTo, AreEmpty, AreSlots, IsSlot, emptied, is_placed, no_places, place_in};
+ghost use Rattle.gob_pipeline.specs.Made.{AddsTo, AreEmpty, AreSlots, IsSlot, emptied_table, is_placed, no_places, place_in};
 ghost use Rattle.gob_pipeline.specs.Made.{slot_of};
 ghost use Rattle.gob_pipeline.specs.Made.{target_in, target_value};
-ghost use Rattle.gob_pipeline.specs.Taking.{with_more};
+ghost use Rattle.gob_pipeline.specs.Taking.{with_bytes_at};
 ghost use Rattle.gob_bytes.specs.Tables.{IsInByteOrder, names_of};
 
 use gob_memory::{find, set};
@@ -152,7 +152,7 @@ fn add_at(
     bytes: &[u8],
 ) -> Result<(), NoMemory>
     requires { IsInByteOrder (names_of table.old.items) }
-    ensures ok { OnOk result (table.new.items ≡ with_more table.old.items place.now bytes.now) }
+    ensures ok { OnOk result (table.new.items ≡ with_bytes_at table.old.items place.now bytes.now) }
     ensures err { OnErr result (table.new.items ≡ table.old.items) }
 {
     match find(table.as_slice(), place) {
@@ -169,7 +169,7 @@ fn add_at(
 }
 
 fn clear_slots(alloc: Global, slots: &mut [Vec<(Text, Bytes)>])
-    ensures { map (λ slot. slot.items) slots.new ≡ map emptied (map (λ slot. slot.items) slots.old) }
+    ensures { map (λ slot. slot.items) slots.new ≡ map emptied_table (map (λ slot. slot.items) slots.old) }
 {
     for slot in slots.iter_mut() {
         clear_slot(alloc, slot.as_mut_slice());
@@ -177,7 +177,7 @@ fn clear_slots(alloc: Global, slots: &mut [Vec<(Text, Bytes)>])
 }
 
 fn clear_slot(alloc: Global, slot: &mut [(Text, Bytes)])
-    ensures { slot.new ≡ emptied slot.old }
+    ensures { slot.new ≡ emptied_table slot.old }
 {
     for entry in slot.iter_mut() {
         clear_bytes(alloc, &mut entry.1);

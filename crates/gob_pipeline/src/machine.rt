@@ -5,7 +5,7 @@ ghost use Rattle.gob_bytes.specs.Lines.{has_no_feed};
 ghost use Rattle.gob_plan.specs.declared.plan.Plan.{Plan as Told};
 ghost use Rattle.gob_pipeline.specs.Made.{Buffers};
 ghost use Rattle.gob_pipeline.specs.Machine.{Fed, WasFed, is_nil};
-ghost use Rattle.gob_pipeline.specs.Taking.{EndsAt, IsOneLine, no_counts};
+ghost use Rattle.gob_pipeline.specs.Taking.{EndsAt, IsOneLine, zero_counts};
 ghost use Rattle.gob_pipeline.specs.States.{TakesEnd, state_value};
 
 use crate::buffers::TargetBuffers;
@@ -265,7 +265,7 @@ fn line_end(bytes: &[u8]) -> Option<usize>
 }
 
 fn counts_of_none(alloc: Global, branches: usize) -> Result<Counts, NoMemory>
-    ensures { IfOk result (λ c. c ≡ no_counts branches) }
+    ensures { IfOk result (λ c. c ≡ zero_counts branches) }
 {
     let mut counts = List::new(alloc);
     'branches: while counts.len() < branches {

@@ -5,7 +5,7 @@ ghost use Rattle.std.specs.List.{list_all};
 ghost use Rattle.std.specs.Str.{IsUtf8};
 ghost use Rattle.gob_meaning.specs.Names.{branch_extension, range_name, target_name};
 ghost use Rattle.gob_pipeline.specs.Made.{is_place, is_placed, target_value};
-ghost use Rattle.gob_pipeline.specs.Alphabet.{IsTargetName, end_of_name, front_of_name, is_name_byte};
+ghost use Rattle.gob_pipeline.specs.Alphabet.{IsTargetName, end_of_name, front_of_name, is_target_byte};
 
 use crate::buffers::Target;
 use gob_plan::{Format, NoMemory, Plan, Text};
@@ -38,7 +38,7 @@ fn push_front(into: &mut Vec<u8>, target: Target<'_>) -> Result<(), NoMemory>
     requires placed { is_placed (target_value target) ≡ true }
     requires empty { into.old.items ≡ [] }
     ensures name { OnOk result (into.new.items ≡ front_of_name (target_value target.entry)) }
-    ensures spelled { OnOk result (list_all is_name_byte into.new.items ≡ true) }
+    ensures spelled { OnOk result (list_all is_target_byte into.new.items ≡ true) }
 {
     match target {
         Target::Out { branch, place } => {
@@ -57,11 +57,11 @@ fn push_front(into: &mut Vec<u8>, target: Target<'_>) -> Result<(), NoMemory>
 }
 
 fn push_folder(into: &mut Vec<u8>, kind: &str, branch: u32, place: &str) -> Result<(), NoMemory>
-    requires kind { list_all is_name_byte kind.now ≡ true }
+    requires kind { list_all is_target_byte kind.now ≡ true }
     requires placed { is_place place.now ≡ true }
     requires empty { into.old.items ≡ [] }
     ensures name { OnOk result (into.new.items ≡ kind.now ++ decimal branch ++ 47 ∷ place.now) }
-    ensures spelled { OnOk result (list_all is_name_byte into.new.items ≡ true) }
+    ensures spelled { OnOk result (list_all is_target_byte into.new.items ≡ true) }
 {
     into.extend_from_slice(kind.as_bytes())?;
     push_u64(into, u64::from(branch))?;

@@ -6,7 +6,7 @@ ghost use Rattle.gob_plan.specs.Tests.{test_fits};
 ghost use Rattle.gob_convert.specs.Made.{concatenation};
 ghost use Rattle.gob_convert.specs.declared.convert.ConvertFault.{ConvertFault as Fault};
 ghost use Rattle.gob_meaning.specs.Plans.{branch_fits, branch_is_short};
-ghost use Rattle.gob_pipeline.specs.Routes.{AreBranches, is_routed, is_taken, is_taking, route_makes, specs_of};
+ghost use Rattle.gob_pipeline.specs.Routes.{AreNumberedBranches, is_routed, is_taken, is_taking, route_makes, specs_of};
 ghost use Rattle.gob_pipeline.specs.Routes.{waiting_makes};
 
 use gob_branch::{Branch, LineItems, RowScratch};
@@ -32,13 +32,13 @@ impl Model for Routes {
     ghost use Rattle.std.specs.List.{list_all};
     ghost use Rattle.gob_plan.specs.Tests.{test_fits};
     ghost use Rattle.gob_rowcheck.specs.Places.{columns_tested, stand_at};
-    ghost use Rattle.gob_pipeline.specs.Routes.{RoutesValue, AreBranches, specs_of};
+    ghost use Rattle.gob_pipeline.specs.Routes.{RoutesValue, AreNumberedBranches, specs_of};
 
     ghost Value = { RoutesValue };
 
     ghost view = { λ r. record { fork = r.fork; columns = r.columns; branches = specs_of r.branches.items } };
 
-    ghost invariant = { λ r. AreBranches r.columns 0 r.branches.items
+    ghost invariant = { λ r. AreNumberedBranches r.columns 0 r.branches.items
         × (length r.branches.items < 2 ^ 32)
         × (list_all (λ t. test_fits t r.columns) r.fork.tests ≡ true)
         × (stand_at (columns_tested r.fork.tests) r.columns r.places.items ≡ true) };
@@ -141,7 +141,7 @@ fn branches_of(
     requires few { length specs.now ≤ 8 }
     requires fit { list_all (branch_fits columns.now) specs.now ≡ true }
     requires short { list_all branch_is_short specs.now ≡ true }
-    ensures branches { IfOk result (λ v. AreBranches columns.now 0 v.items) }
+    ensures branches { IfOk result (λ v. AreNumberedBranches columns.now 0 v.items) }
     ensures specs { IfOk result (λ v. specs_of v.items ≡ specs.now) }
 {
     let mut branches = Vec::with_capacity(alloc, specs.len())?;

@@ -9,8 +9,8 @@ ghost use Rattle.gob_meaning.specs.Items.{RowMade};
 ghost use Rattle.gob_branch.specs.ItemSpans.{item_value};
 ghost use Rattle.gob_meaning.specs.Sums.{both_branches, branch_sums, sum_of};
 ghost use Rattle.gob_pipeline.specs.Made.{AddsTo};
-ghost use Rattle.gob_pipeline.specs.Taking.{TakesLine, counts_of_line, fold_of_items, item_fits, line_of_end, one_line};
-ghost use Rattle.gob_pipeline.specs.Taking.{one_more};
+ghost use Rattle.gob_pipeline.specs.Taking.{TakesLine, counts_of_line, fold_of_items, item_fits, line_of_end, line_folds};
+ghost use Rattle.gob_pipeline.specs.Taking.{with_one_item};
 
 use crate::buffers::{Target, TargetBuffers};
 use crate::pipeline::{LineEnd, Pipeline, Workspace};
@@ -170,7 +170,7 @@ fn add_line(alloc: Global, counts: &mut Counts, end: LineEnd, items: &LineItems)
 
 fn records_in(end: LineEnd) -> u64
     ensures { (raw : List ℕ) (items : List RowMade) → result
-        ≡ count_by (λ f. is_record f.made) (one_line 0 (line_of_end end raw items)) }
+        ≡ count_by (λ f. is_record f.made) (line_folds 0 (line_of_end end raw items)) }
 {
     match end {
         LineEnd::Header => 0,
@@ -184,7 +184,7 @@ fn records_in(end: LineEnd) -> u64
 
 fn bad_in(end: LineEnd) -> u64
     ensures { (raw : List ℕ) (items : List RowMade) → result
-        ≡ count_by (λ f. is_bad f.made) (one_line 0 (line_of_end end raw items)) }
+        ≡ count_by (λ f. is_bad f.made) (line_folds 0 (line_of_end end raw items)) }
 {
     match end {
         LineEnd::Header => 0,
@@ -198,7 +198,7 @@ fn bad_in(end: LineEnd) -> u64
 
 fn rows_in(end: LineEnd) -> u64
     ensures { (raw : List ℕ) (items : List RowMade) → result
-        ≡ sum_by (λ f. rows_in f.made) (one_line 0 (line_of_end end raw items)) }
+        ≡ sum_by (λ f. rows_in f.made) (line_folds 0 (line_of_end end raw items)) }
 {
     match end {
         LineEnd::Header => 0,
@@ -209,7 +209,7 @@ fn rows_in(end: LineEnd) -> u64
 
 fn unrouted_in(end: LineEnd) -> u64
     ensures { (raw : List ℕ) (items : List RowMade) → result
-        ≡ sum_by (λ f. unrouted_in f.made) (one_line 0 (line_of_end end raw items)) }
+        ≡ sum_by (λ f. unrouted_in f.made) (line_folds 0 (line_of_end end raw items)) }
 {
     match end {
         LineEnd::Header => 0,
@@ -252,7 +252,7 @@ fn with_items(before: BranchCounts, items: &LineItems, branch: u64) -> BranchCou
 }
 
 fn with_item(counts: BranchCounts, item: Item<'_>) -> BranchCounts
-    ensures { result ≡ one_more counts (item_value item.entry) }
+    ensures { result ≡ with_one_item counts (item_value item.entry) }
 {
     let written = matches!(item.end, ItemEnd::Written);
     let error = matches!(item.end, ItemEnd::Error);

@@ -7,8 +7,8 @@ use Rattle.std.specs.List.{list_all}
 use Rattle.std.specs.Char.{digit_value, is_digit}
 use Rattle.std.proofs.lemmas.Bool.{cond_both, cond-true, cond-false, and_left, and_right, and_from, lt-ltb, le-ltb}
 use Rattle.std.proofs.lemmas.List.{get_or_read}
-use Rattle.gob_props.specs.Properties.{is_backslash, Character, code_unit, escaped_unit, paired, coded, escape, is_high}
-use Rattle.gob_props.specs.Properties.{is_low, first_character, read_characters, unescaped, paired_up}
+use Rattle.gob_props.specs.Properties.{is_backslash, Character, code_unit, escaped_unit, paired_character, coded_character, escape, is_high}
+use Rattle.gob_props.specs.Properties.{is_low, first_character, read_characters, without_escapes, paired_up}
 use Rattle.std.proofs.Math.Seq.{take-length}
 
 -- ---- code units
@@ -91,13 +91,13 @@ code_unit-read text a b c d long ra rb rc rd ha hb hc hd =
 -- ---- characters
 
 paired_shorter : (high : ℕ) (after : List ℕ) (low : Option ℕ) →
-    IfSome (paired high after low) (λ x. length x.after ≤ length after)
+    IfSome (paired_character high after low) (λ x. length x.after ≤ length after)
 paired_shorter high after None = tt
 paired_shorter high after (Some low) = cond_both (is_low low) _ _
     (λ (o : Option Character). IfSome o (λ x. length x.after ≤ length after)) (λ _. omega (arith, length-drop 6 after))
     (λ _. tt)
 
-coded_shorter : (after : List ℕ) (unit : Option ℕ) → IfSome (coded after unit) (λ x. length x.after ≤ length after)
+coded_shorter : (after : List ℕ) (unit : Option ℕ) → IfSome (coded_character after unit) (λ x. length x.after ≤ length after)
 coded_shorter after None = tt
 coded_shorter after (Some unit) =
     cond_both (is_high unit) _ _ (λ (o : Option Character). IfSome o (λ x. length x.after ≤ length after))
@@ -114,7 +114,7 @@ escape_shorter : (cs : List ℕ) → IfSome (escape cs) (λ x. length x.after �
 escape_shorter [] = tt
 escape_shorter (c ∷ cs) =
     cond_both (nat_eq c 117) _ _ (λ (o : Option Character). IfSome o (λ x. length x.after ≤ suc (length cs)))
-    (λ _. if_some_weaker (coded (drop 4 cs) (code_unit cs)) (length (drop 4 cs)) (suc (length cs))
+    (λ _. if_some_weaker (coded_character (drop 4 cs) (code_unit cs)) (length (drop 4 cs)) (suc (length cs))
     (omega (arith, length-drop 4 cs)) (coded_shorter (drop 4 cs) (code_unit cs)))
     (λ _. omega arith)
 
@@ -140,7 +140,7 @@ read_enough (suc n) (suc m) (c ∷ cs) h k =
     (λ x short. ap (option_map (λ later. x.value ∷ later)) (read_enough n m x.after (omega arith) (omega arith)))
 
 pub unescaped_step : (c : ℕ) (cs : List ℕ) →
-    unescaped (c ∷ cs) ≡ option_and_then (λ (x : Character). option_map (λ later. x.value ∷ later) (unescaped x.after))
+    without_escapes (c ∷ cs) ≡ option_and_then (λ (x : Character). option_map (λ later. x.value ∷ later) (without_escapes x.after))
     (first_character c cs)
 unfolding read_characters
 unescaped_step c cs =
@@ -148,7 +148,7 @@ unescaped_step c cs =
     (λ x short. ap (option_map (λ later. x.value ∷ later))
     (read_enough (length cs) (length x.after) x.after short (omega arith)))
 
-pub unescaped_end : unescaped [] ≡ Some []
+pub unescaped_end : without_escapes [] ≡ Some []
 unfolding read_characters
 unescaped_end = refl
 
@@ -170,32 +170,32 @@ first_and_rest (x ∷ xs) first some read =
     ap (λ y. y ∷ xs) (sym read) ∙ ap (λ ys. first ∷ ys) (sym (take-length xs) ∙ ap (λ n. take n xs) (sym same))
 
 goes_to : (out left : List ℕ) (first : ℕ) (rest : List ℕ) (o : Option Character) → left ≡ first ∷ rest →
-    o ≡ first_character first rest → option_map (λ cs. out ++ encode_utf8_all cs) (unescaped left) ≡
+    o ≡ first_character first rest → option_map (λ cs. out ++ encode_utf8_all cs) (without_escapes left) ≡
     option_map (λ cs. out ++ encode_utf8_all cs)
-    (option_and_then (λ (x : Character). option_map (λ later. x.value ∷ later) (unescaped x.after)) o)
+    (option_and_then (λ (x : Character). option_map (λ later. x.value ∷ later) (without_escapes x.after)) o)
 goes_to out left first rest o whole read =
-    ap (λ t. option_map (λ cs. out ++ encode_utf8_all cs) (unescaped t)) whole
+    ap (λ t. option_map (λ cs. out ++ encode_utf8_all cs) (without_escapes t)) whole
     ∙ ap (option_map (λ cs. out ++ encode_utf8_all cs))
     (unescaped_step first rest
-    ∙ ap (option_and_then (λ (x : Character). option_map (λ later. x.value ∷ later) (unescaped x.after)))
+    ∙ ap (option_and_then (λ (x : Character). option_map (λ later. x.value ∷ later) (without_escapes x.after)))
     (sym read))
 
 pub step_some : (out out' left : List ℕ) (first c : ℕ) (rest after : List ℕ) (all : Option (List ℕ)) →
     left ≡ first ∷ rest → Some (record { value = c; after = after }) ≡ first_character first rest →
-    out' ≡ out ++ encode_utf8 c → option_map (λ cs. out ++ encode_utf8_all cs) (unescaped left) ≡ all →
-    option_map (λ cs. out' ++ encode_utf8_all cs) (unescaped after) ≡ all
+    out' ≡ out ++ encode_utf8 c → option_map (λ cs. out ++ encode_utf8_all cs) (without_escapes left) ≡ all →
+    option_map (λ cs. out' ++ encode_utf8_all cs) (without_escapes after) ≡ all
 step_some out out' left first c rest after all whole read wrote so_far =
-    ap (λ o. option_map (λ cs. o ++ encode_utf8_all cs) (unescaped after)) wrote
-    ∙ sym (written_more out c (unescaped after))
+    ap (λ o. option_map (λ cs. o ++ encode_utf8_all cs) (without_escapes after)) wrote
+    ∙ sym (written_more out c (without_escapes after))
     ∙ sym (goes_to out left first rest (Some (record { value = c; after = after })) whole read)
     ∙ so_far
 
 pub step_none : (out left : List ℕ) (first : ℕ) (rest : List ℕ) (all : Option (List ℕ)) → left ≡ first ∷ rest →
-    None ≡ first_character first rest → option_map (λ cs. out ++ encode_utf8_all cs) (unescaped left) ≡ all → None ≡ all
+    None ≡ first_character first rest → option_map (λ cs. out ++ encode_utf8_all cs) (without_escapes left) ≡ all → None ≡ all
 step_none out left first rest all whole read so_far = sym (goes_to out left first rest None whole read) ∙ so_far
 
 pub step_end : (out left : List ℕ) (all : Option (List ℕ)) → length left < 1 →
-    option_map (λ cs. out ++ encode_utf8_all cs) (unescaped left) ≡ all → Some out ≡ all
+    option_map (λ cs. out ++ encode_utf8_all cs) (without_escapes left) ≡ all → Some out ≡ all
 step_end out [] all none so_far = ap Some (sym (append-nil out))
     ∙ sym (ap (option_map (λ cs. out ++ encode_utf8_all cs)) unescaped_end) ∙ so_far
 step_end out (c ∷ left) all none so_far = absurd (omega arith)

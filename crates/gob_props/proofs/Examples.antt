@@ -4,7 +4,7 @@ use Rattle.std.specs.Prelude.{codes}
 use Rattle.std.specs.Str.{chars, is_utf8}
 use lib.Utf8.{encode}
 use Rattle.gob_props.specs.Properties.{natural_from, goes_on, logical_from, key_part, value_part, code_unit}
-use Rattle.gob_props.specs.Properties.{first_character, read_characters, entry_of, all_entries, properties_of}
+use Rattle.gob_props.specs.Properties.{first_character, read_characters, key_value_of, all_entries, properties_of}
 use Rattle.gob_props.specs.declared.fault.PropsFault.TheVariants.{NotUtf8, BadEscape}
 
 -- keys and values: an escaped separator, an empty key, an empty value, no separator, white space around and behind
@@ -21,7 +21,7 @@ pub separators :
     ((12 ∷ []) ++ codes " a" ++ (12 ∷ []) ++ codes "=" ++ (12 ∷ []) ++ codes "b" ++
     (12 ∷ 10 ∷ [])) ≡ Ok ((codes "a", codes "b" ++ (12 ∷ [])) ∷ []))
 unfolding properties_of natural_from goes_on logical_from key_part value_part code_unit first_character read_characters
-    entry_of all_entries chars is_utf8 encode
+    key_value_of all_entries chars is_utf8 encode
 separators = (refl, refl, refl, refl, refl, refl, refl, refl, refl)
 
 -- each kind of line end, and a backslash at the end of the file
@@ -33,7 +33,7 @@ pub ends :
     × (properties_of (codes "a=b" ++ (92 ∷ 13 ∷ 10 ∷ []) ++ codes " c") ≡
     Ok ((codes "a", codes "bc") ∷ [])) × (properties_of ([]) ≡ Ok ([]))
 unfolding properties_of natural_from goes_on logical_from key_part value_part code_unit first_character read_characters
-    entry_of all_entries chars is_utf8 encode
+    key_value_of all_entries chars is_utf8 encode
 ends = (refl, refl, refl, refl)
 
 -- lines that go on: by an odd number of backslashes, with a comment after, with a blank line after, an empty logical
@@ -58,7 +58,7 @@ pub continued :
     (codes "# c" ++ (92 ∷ 10 ∷ []) ++ codes "a=1") ≡
     Ok ((codes "a", codes "1") ∷ []))
 unfolding properties_of natural_from goes_on logical_from key_part value_part code_unit first_character read_characters
-    entry_of all_entries chars is_utf8 encode
+    key_value_of all_entries chars is_utf8 encode
 continued = (refl, refl, refl, refl, refl, refl, refl)
 
 -- the last of equal keys counts, in the place of the first
@@ -68,7 +68,7 @@ pub equal_keys :
     × (properties_of (codes "a=1" ++ (10 ∷ 92 ∷ []) ++ codes "u0061=2" ++ (10 ∷ [])) ≡
     Ok ((codes "a", codes "2") ∷ []))
 unfolding properties_of natural_from goes_on logical_from key_part value_part code_unit first_character read_characters
-    entry_of all_entries chars is_utf8 encode
+    key_value_of all_entries chars is_utf8 encode
 equal_keys = (refl, refl)
 
 -- escapes, and a pair of surrogates
@@ -92,7 +92,7 @@ pub escapes :
       (195 ∷ 169 ∷ []),
     ) ∷ []))
 unfolding properties_of natural_from goes_on logical_from key_part value_part code_unit first_character read_characters
-    entry_of all_entries chars is_utf8 encode
+    key_value_of all_entries chars is_utf8 encode
 escapes = (refl, refl, refl, refl, refl)
 
 -- malformed escapes, and the natural line that begins the logical one
@@ -115,7 +115,7 @@ pub bad_escapes :
     (10 ∷ []) ++ codes "b=" ++ (92 ∷ []) ++ codes "u2") ≡
     Err (BadEscape 1))
 unfolding properties_of natural_from goes_on logical_from key_part value_part code_unit first_character read_characters
-    entry_of all_entries chars is_utf8 encode
+    key_value_of all_entries chars is_utf8 encode
 bad_escapes = (refl, refl, refl, refl, refl, refl, refl, refl, refl)
 
 -- bytes that are not UTF-8, in a comment and before a malformed escape too
@@ -123,7 +123,7 @@ pub not_utf8 : (properties_of (codes "# " ++ (255 ∷ 10 ∷ []) ++ codes "a=1")
     × (properties_of (codes "a=" ++ (92 ∷ []) ++ codes "u1" ++ (10 ∷ []) ++ codes "b=" ++ (195 ∷ [])) ≡ Err NotUtf8)
     × (properties_of ((237 ∷ 160 ∷ 128 ∷ []) ++ codes "=1") ≡ Err NotUtf8)
 unfolding properties_of natural_from goes_on logical_from key_part value_part code_unit first_character read_characters
-    entry_of all_entries chars is_utf8 encode
+    key_value_of all_entries chars is_utf8 encode
 not_utf8 = (refl, refl, refl)
 
 -- the job file of a web tier
@@ -157,5 +157,5 @@ pub web_tier : properties_of clicks ≡
     (codes "job.commit.policy", codes "successful") ∷
     (codes "data.publisher.final.dir", codes "${env:OUT}") ∷ [])
 unfolding properties_of natural_from goes_on logical_from key_part value_part code_unit first_character read_characters
-    entry_of all_entries chars is_utf8 encode
+    key_value_of all_entries chars is_utf8 encode
 web_tier = refl

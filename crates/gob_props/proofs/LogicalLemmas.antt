@@ -8,7 +8,7 @@ use Rattle.std.specs.List.{prefix_len, suffix_len}
 use Rattle.std.specs.Option.{is_some, option_to_list}
 use Rattle.std.proofs.lemmas.Bool.Decides.{nat_tests}
 use Rattle.std.proofs.lemmas.Bool.{cond-true, cond-false, true≢false}
-use Rattle.gob_props.specs.Properties.{is_backslash, is_blank, trimmed, goes_on, part_of, is_passed_over, Logical}
+use Rattle.gob_props.specs.Properties.{is_backslash, is_white_space, without_white_space, goes_on, part_of, is_passed_over, Logical}
 use Rattle.gob_props.specs.Properties.{with_line, logical_from}
 use Rattle.gob_props.specs.Steps.{later_lines}
 
@@ -38,17 +38,17 @@ after_other : (rs : List ℕ) (c : ℕ) → is_backslash c ≡ false →
 after_other [] c other = cond-false _ _ _ other
 after_other (r ∷ rs) c other = ap (λ n. cond (is_backslash r) (1 + n) 0) (after_other rs c other)
 
-blank_other : (c : ℕ) → is_blank c ≡ true → is_backslash c ≡ false
+blank_other : (c : ℕ) → is_white_space c ≡ true → is_backslash c ≡ false
 blank_other c blank = grind (arith, nat_tests)
 
 -- white space in front changes nothing
-pub goes_on_trimmed : (cs : List ℕ) → goes_on (trimmed cs) ≡ goes_on cs
+pub goes_on_trimmed : (cs : List ℕ) → goes_on (without_white_space cs) ≡ goes_on cs
 unfolding goes_on
 goes_on_trimmed [] = refl
-goes_on_trimmed (c ∷ cs) = either (is_blank c) refl (goes_on_trimmed cs)
+goes_on_trimmed (c ∷ cs) = either (is_white_space c) refl (goes_on_trimmed cs)
   where
-    either : (b : Bool) → is_blank c ≡ b → goes_on (trimmed cs) ≡ goes_on cs →
-        goes_on (cond b (trimmed cs) (c ∷ cs)) ≡ goes_on (c ∷ cs)
+    either : (b : Bool) → is_white_space c ≡ b → goes_on (without_white_space cs) ≡ goes_on cs →
+        goes_on (cond b (without_white_space cs) (c ∷ cs)) ≡ goes_on (c ∷ cs)
     either true blank more =
         more ∙ ap (λ n. nat_eq (n % 2) 1)
         (sym (ap (prefix_len is_backslash) (reverse-append (c ∷ []) cs)
@@ -79,10 +79,10 @@ pub without_last : (old new text : List ℕ) (last : Option ℕ) → old ++ text
 without_last old new text None same some there = cc
 without_last old new text (Some c) same some there = without_item old new text c same some
 
-pub part_whole : (line : List ℕ) → goes_on line ≡ false → part_of line ≡ trimmed line
+pub part_whole : (line : List ℕ) → goes_on line ≡ false → part_of line ≡ without_white_space line
 part_whole line whole = cond-false _ _ _ whole
 
-pub part_front : (line : List ℕ) → goes_on line ≡ true → part_of line ≡ take (length (trimmed line) - 1) (trimmed line)
+pub part_front : (line : List ℕ) → goes_on line ≡ true → part_of line ≡ take (length (without_white_space line) - 1) (without_white_space line)
 part_front line more = cond-true _ _ _ more
 
 pub goes_on_some : (text : List ℕ) → goes_on text ≡ true → 0 < length text

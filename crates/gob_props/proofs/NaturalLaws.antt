@@ -4,7 +4,7 @@ use Rattle.std.proofs.Common.{refl, sym, ap, subst, ◌∙◌, append_assoc, app
 use Rattle.std.specs.Str.{NonePass}
 use Rattle.std.proofs.lemmas.Bool.{cond-false, eqb-true}
 use Rattle.gob_props.specs.Properties.{is_line_end, natural_from, natural_lines}
-use Rattle.gob_props.specs.Steps.{after_end}
+use Rattle.gob_props.specs.Steps.{behind_line_end}
 use Rattle.gob_props.specs.Laws.{has_no_end, begins_with_feed, IsEnd, AreNatural, NaturalLinesAreTheText}
 use Rattle.gob_props.proofs.NaturalLemmas.{natural_cut, natural_whole}
 
@@ -87,11 +87,11 @@ none_pass (c ∷ cs) clear = either (is_line_end c) refl clear (none_pass cs)
     either true e clear more = cc
     either false e clear more = (e, more clear)
 
-pub after_feed : (rest : List ℕ) → after_end (10 ∷ rest) ≡ rest
+pub after_feed : (rest : List ℕ) → behind_line_end (10 ∷ rest) ≡ rest
 after_feed [] = refl
 after_feed (d ∷ rest) = refl
 
-after_return : (rest : List ℕ) → begins_with_feed rest ≡ false → after_end (13 ∷ rest) ≡ rest
+after_return : (rest : List ℕ) → begins_with_feed rest ≡ false → behind_line_end (13 ∷ rest) ≡ rest
 after_return [] alone = refl
 after_return (d ∷ rest) alone = cond-false _ _ _ alone
 

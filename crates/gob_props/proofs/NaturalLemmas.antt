@@ -11,7 +11,7 @@ use Rattle.std.proofs.lemmas.Str.{IsUtf8-take, IsUtf8-drop, chars_from_encodes, 
 use Rattle.std.proofs.lemmas.Str.{length-encode, len_utf8_bounds}
 use lib.Utf8.{encode}
 use Rattle.gob_props.specs.Properties.{is_line_end, natural_from, natural_lines}
-use Rattle.gob_props.specs.Steps.{after_end}
+use Rattle.gob_props.specs.Steps.{behind_line_end}
 
 pub pair_no : (c d : ℕ) → is_line_end c ≡ false → (nat_eq c 13 && nat_eq d 10) ≡ false
 pair_no c d h = and_left (nat_eq c 13) (nat_eq d 10) ((or_parts (nat_eq c 10) (nat_eq c 13) h).1)
@@ -23,7 +23,7 @@ natural_step c d cs begun no' = cond-false _ _ _ (pair_no c d no') ∙ cond-fals
 
 -- a line that ends
 pub natural_cut : (front : List ℕ) (c : ℕ) (rest begun : List ℕ) → NonePass is_line_end front → is_line_end c ≡ true →
-    natural_from begun (front ++ c ∷ rest) ≡ (begun ++ front) ∷ natural_from [] (after_end (c ∷ rest))
+    natural_from begun (front ++ c ∷ rest) ≡ (begun ++ front) ∷ natural_from [] (behind_line_end (c ∷ rest))
 unfolding natural_from
 natural_cut [] c [] begun none here = cond-true _ _ _ here ∙ ap (λ x. x ∷ [] ∷ []) (sym (append-nil begun))
 natural_cut [] c (d ∷ rest) begun none here =
@@ -37,11 +37,11 @@ natural_cut [] c (d ∷ rest) begun none here =
 natural_cut (f ∷ []) c rest begun none here =
     natural_step f c rest begun none.0
     ∙ natural_cut [] c rest (begun ++ f ∷ []) tt here
-    ∙ ap (λ x. x ∷ natural_from [] (after_end (c ∷ rest))) (append-nil (begun ++ f ∷ []))
+    ∙ ap (λ x. x ∷ natural_from [] (behind_line_end (c ∷ rest))) (append-nil (begun ++ f ∷ []))
 natural_cut (f ∷ g ∷ front) c rest begun none here =
     natural_step f g (front ++ c ∷ rest) begun none.0
     ∙ natural_cut (g ∷ front) c rest (begun ++ f ∷ []) none.1 here
-    ∙ ap (λ x. x ∷ natural_from [] (after_end (c ∷ rest))) (append_assoc begun (f ∷ []) (g ∷ front))
+    ∙ ap (λ x. x ∷ natural_from [] (behind_line_end (c ∷ rest))) (append_assoc begun (f ∷ []) (g ∷ front))
 
 pub natural_whole : (text begun : List ℕ) → NonePass is_line_end text → natural_from begun text ≡ (begun ++ text) ∷ []
 unfolding natural_from
@@ -69,7 +69,7 @@ are_line_ends c = last _ _ ∙ ap (λ b. b || nat_eq 13 c) (turned 10 c) ∙ ap 
 -- the text is cut at its first line end
 pub cut_at : (text line rest after : List ℕ) (i j : ℕ) → IsUtf8 text → IsCharBoundary text i →
     NoCharPasses is_line_end (take i text) → HasPassingCharAt is_line_end text i j →
-    line ≡ take i text → rest ≡ drop i text → chars after ≡ after_end (chars rest) →
+    line ≡ take i text → rest ≡ drop i text → chars after ≡ behind_line_end (chars rest) →
     natural_lines (chars text) ≡ chars line ∷ natural_lines (chars after)
 cut_at text line rest after i j utf8 boundary none ends is-line is-rest is-after =
     let c = ends.0 in
@@ -81,10 +81,10 @@ cut_at text line rest after i j utf8 boundary none ends is-line is-rest is-after
     let whole : chars text ≡ chars (take i text) ++ c ∷ chars (drop j text) =
     ap chars (sym (take-append-drop i text)) ∙ chars-append (take i text) (drop i text) front
     ∙ ap (λ l. chars (take i text) ++ l) back in
-    let later : after_end (c ∷ chars (drop j text)) ≡ chars after =
-    sym (is-after ∙ ap after_end (ap chars is-rest ∙ back)) in
+    let later : behind_line_end (c ∷ chars (drop j text)) ≡ chars after =
+    sym (is-after ∙ ap behind_line_end (ap chars is-rest ∙ back)) in
     ap natural_lines whole ∙ natural_cut (chars (take i text)) c (chars (drop j text)) [] clear ends.1
-    ∙ ap (λ l. chars l ∷ natural_lines (after_end (c ∷ chars (drop j text)))) (sym is-line)
+    ∙ ap (λ l. chars l ∷ natural_lines (behind_line_end (c ∷ chars (drop j text)))) (sym is-line)
     ∙ ap (λ l. chars line ∷ natural_lines l) later
 
 pub no_cut : (text : List ℕ) → IsUtf8 text → NoCharPasses is_line_end text →

@@ -3,10 +3,10 @@ use Rattle.std.proofs.Common.{◌≡◌, ℕ, Bool, true, false, cond, bytes_eq,
 use Rattle.std.proofs.Common.{Some, is_some}
 use Rattle.gob_bytes.specs.Tables.{at_name, names_of}
 use Rattle.gob_bytes.proofs.Tables.{same_name, name_itself, cond_twice, cond_shadowed}
-use Rattle.gob_props.specs.Properties.{Entry, with_entry}
+use Rattle.gob_props.specs.Properties.{KeyValue, with_entry}
 use Rattle.gob_props.specs.Laws.{PutsEntry}
 
-values : (es : List Entry) (new : Entry) (key : List ℕ) →
+values : (es : List KeyValue) (new : KeyValue) (key : List ℕ) →
     at_name (with_entry es new) key ≡ cond (bytes_eq key new.0) (Some new.1) (at_name es key)
 values [] new key = refl
 values (e ∷ es) new key = either (bytes_eq new.0 e.0) refl (values es new key)
@@ -25,7 +25,7 @@ values (e ∷ es) new key = either (bytes_eq new.0 e.0) refl (values es new key)
         (λ a b. let n : new.0 ≡ e.0 = sym (same_name key new.0 b) ∙ same_name key e.0 a in
         let is : bytes_eq new.0 e.0 ≡ true = ap (bytes_eq new.0) (sym n) ∙ name_itself new.0 in cc)
 
-keys : (es : List Entry) (new : Entry) →
+keys : (es : List KeyValue) (new : KeyValue) →
     names_of (with_entry es new) ≡ cond (is_some (at_name es new.0)) (names_of es) (names_of es ++ new.0 ∷ [])
 keys [] new = refl
 keys (e ∷ es) new = either (bytes_eq new.0 e.0) refl (keys es new)
@@ -40,5 +40,5 @@ keys (e ∷ es) new = either (bytes_eq new.0 e.0) refl (keys es new)
         ∙ elim (is_some (at_name es new.0)) as (λ v. e.0 ∷ cond v (names_of es) (names_of es ++ new.0 ∷ [])
         ≡ cond v (e.0 ∷ names_of es) (e.0 ∷ names_of es ++ new.0 ∷ [])) [ true ↦ refl | false ↦ refl ]
 
-pub puts_entry : (es : List Entry) (new : Entry) → PutsEntry es new
+pub puts_entry : (es : List KeyValue) (new : KeyValue) → PutsEntry es new
 puts_entry es new = record { values = values es new; keys = keys es new }

@@ -14,14 +14,14 @@ use Rattle.std.proofs.Math.Seq.{take-length}
 use Rattle.std.proofs.lemmas.Bool.{cond-true, cond-false, eqb-true, or_parts, and_from}
 use Rattle.std.proofs.lemmas.List.{take-append-le, drop_at}
 use Rattle.std.proofs.lemmas.Str.{chars-encodes, is_utf8-from_IsUtf8}
-use Rattle.gob_props.specs.Properties.{is_line_end, natural_from, natural_lines, is_blank, is_backslash, trimmed}
+use Rattle.gob_props.specs.Properties.{is_line_end, natural_from, natural_lines, is_white_space, is_backslash, without_white_space}
 use Rattle.gob_props.specs.Properties.{is_comment}
-use Rattle.gob_props.specs.Properties.{is_passed_over, goes_on, part_of, with_line, logical_from, is_mark}
+use Rattle.gob_props.specs.Properties.{is_passed_over, goes_on, part_of, with_line, logical_from, is_key_end}
 use Rattle.gob_props.specs.Properties.{is_separator, key_length, without_mark, key_part, value_part, Character}
 use Rattle.gob_props.specs.Properties.{meaning_of}
-use Rattle.gob_props.specs.Properties.{first_character, unescaped, paired_up, entry_of, put_first, all_entries}
+use Rattle.gob_props.specs.Properties.{first_character, without_escapes, paired_up, key_value_of, put_first, all_entries}
 use Rattle.gob_props.specs.Properties.{with_all, read_text, properties_of}
-use Rattle.gob_props.specs.Laws.{Written, needs_backslash, spelled_character, spelled, line_of, written, are_scalars}
+use Rattle.gob_props.specs.Laws.{Written, needs_backslash, spelled_character, spelled_text, line_of, written_text, are_scalars}
 use Rattle.gob_props.specs.Laws.{in_bytes}
 use Rattle.gob_props.specs.Laws.{EntriesReadBack}
 use Rattle.gob_props.proofs.NaturalLemmas.{natural_cut}
@@ -79,18 +79,18 @@ self_meant c needs =
     (λ (a : (is_separator c || is_backslash c || nat_eq c 35) ≡ true). ⊎_elim
     (λ (b : (is_separator c || is_backslash c) ≡ true). ⊎_elim
     (λ (d : is_separator c ≡ true). ⊎_elim
-    (λ (m : is_mark c ≡ true).
+    (λ (m : is_key_end c ≡ true).
     ⊎_elim (at 61 (record { spelling = refl; no_unit = refl; meaning = refl; no_end = refl; scalar_letter = λ s. s }))
     (at 58 (record { spelling = refl; no_unit = refl; meaning = refl; no_end = refl; scalar_letter = λ s. s }))
     (either_true (nat_eq c 61) (nat_eq c 58) m))
-    (λ (w : is_blank c ≡ true). ⊎_elim
+    (λ (w : is_white_space c ≡ true). ⊎_elim
     (λ (x : (nat_eq c 32 || nat_eq c 9) ≡ true).
     ⊎_elim (at 32 (record { spelling = refl; no_unit = refl; meaning = refl; no_end = refl; scalar_letter = λ s. s }))
     (at 9 (record { spelling = refl; no_unit = refl; meaning = refl; no_end = refl; scalar_letter = λ s. s }))
     (either_true (nat_eq c 32) (nat_eq c 9) x))
     (at 12 (record { spelling = refl; no_unit = refl; meaning = refl; no_end = refl; scalar_letter = λ s. s }))
     (either_true (nat_eq c 32 || nat_eq c 9) (nat_eq c 12) w))
-    (either_true (is_mark c) (is_blank c) d))
+    (either_true (is_key_end c) (is_white_space c) d))
     (at 92 (record { spelling = refl; no_unit = refl; meaning = refl; no_end = refl; scalar_letter = λ s. s }))
     (either_true (is_separator c) (is_backslash c) b))
     (at 35 (record { spelling = refl; no_unit = refl; meaning = refl; no_end = refl; scalar_letter = λ s. s }))
@@ -135,79 +135,79 @@ spelling_of c = feed (nat_eq c 10) refl
     }) e)
     feed false e = return e (nat_eq c 13) refl
 
-escaped_first : (c letter : ℕ) (cs : List ℕ) → Escaped c letter → spelled (c ∷ cs) ≡ 92 ∷ letter ∷ spelled cs
-escaped_first c letter cs e = ap (λ t. t ++ spelled cs) e.spelling
+escaped_first : (c letter : ℕ) (cs : List ℕ) → Escaped c letter → spelled_text (c ∷ cs) ≡ 92 ∷ letter ∷ spelled_text cs
+escaped_first c letter cs e = ap (λ t. t ++ spelled_text cs) e.spelling
 
-raw_first : (c : ℕ) (cs : List ℕ) → Raw c → spelled (c ∷ cs) ≡ c ∷ spelled cs
-raw_first c cs r = ap (λ t. t ++ spelled cs) r.spelling
+raw_first : (c : ℕ) (cs : List ℕ) → Raw c → spelled_text (c ∷ cs) ≡ c ∷ spelled_text cs
+raw_first c cs r = ap (λ t. t ++ spelled_text cs) r.spelling
 
 -- ---- a spelled text, before what follows it
 
 -- it has no line end
-clear : (cs rest : List ℕ) → NonePass is_line_end rest → NonePass is_line_end (spelled cs ++ rest)
+clear : (cs rest : List ℕ) → NonePass is_line_end rest → NonePass is_line_end (spelled_text cs ++ rest)
 clear [] rest none = none
 clear (c ∷ cs) rest none = step (spelling_of c) (clear cs rest none)
   where
-    step : Spelling c → NonePass is_line_end (spelled cs ++ rest) → NonePass is_line_end (spelled (c ∷ cs) ++ rest)
+    step : Spelling c → NonePass is_line_end (spelled_text cs ++ rest) → NonePass is_line_end (spelled_text (c ∷ cs) ++ rest)
     step (by_letter letter e) more =
         subst (λ t. NonePass is_line_end (t ++ rest)) (sym (escaped_first c letter cs e)) (refl, (e.no_end, more))
     step (as_itself r) more =
         subst (λ t. NonePass is_line_end (t ++ rest)) (sym (raw_first c cs r)) (r.no_end, more)
 
 -- its characters are characters
-scalars_spelled : (cs rest : List ℕ) → scalars cs ≡ true → scalars rest ≡ true → scalars (spelled cs ++ rest) ≡ true
+scalars_spelled : (cs rest : List ℕ) → scalars cs ≡ true → scalars rest ≡ true → scalars (spelled_text cs ++ rest) ≡ true
 scalars_spelled [] rest all more = more
 scalars_spelled (c ∷ cs) rest all more =
     step (spelling_of c) (and_left_true _ _ all) (scalars_spelled cs rest (and_right_true _ _ all) more)
   where
-    step : Spelling c → scalar c ≡ true → scalars (spelled cs ++ rest) ≡ true
-        → scalars (spelled (c ∷ cs) ++ rest) ≡ true
+    step : Spelling c → scalar c ≡ true → scalars (spelled_text cs ++ rest) ≡ true
+        → scalars (spelled_text (c ∷ cs) ++ rest) ≡ true
     step (by_letter letter e) one more =
         ap (λ t. scalars (t ++ rest)) (escaped_first c letter cs e) ∙ and_from _ _ (e.scalar_letter one) more
     step (as_itself r) one more = ap (λ t. scalars (t ++ rest)) (raw_first c cs r) ∙ and_from _ _ one more
 
 -- its key ends at the mark behind it
-key_ends : (cs rest : List ℕ) → key_length false (spelled cs ++ 61 ∷ rest) ≡ length (spelled cs)
+key_ends : (cs rest : List ℕ) → key_length false (spelled_text cs ++ 61 ∷ rest) ≡ length (spelled_text cs)
 key_ends [] rest = refl
 key_ends (c ∷ cs) rest = step (spelling_of c) (key_ends cs rest)
   where
-    step : Spelling c → key_length false (spelled cs ++ 61 ∷ rest) ≡ length (spelled cs) →
-        key_length false (spelled (c ∷ cs) ++ 61 ∷ rest) ≡ length (spelled (c ∷ cs))
+    step : Spelling c → key_length false (spelled_text cs ++ 61 ∷ rest) ≡ length (spelled_text cs) →
+        key_length false (spelled_text (c ∷ cs) ++ 61 ∷ rest) ≡ length (spelled_text (c ∷ cs))
     step (by_letter letter e) more =
         ap (λ t. key_length false (t ++ 61 ∷ rest)) (escaped_first c letter cs e)
-        ∙ ap (λ n. 1 + (1 + n)) more ∙ two (length (spelled cs)) ∙ sym (ap length (escaped_first c letter cs e))
+        ∙ ap (λ n. 1 + (1 + n)) more ∙ two (length (spelled_text cs)) ∙ sym (ap length (escaped_first c letter cs e))
       where
         two : (n : ℕ) → 1 + (1 + n) ≡ suc (suc n)
         two n = omega arith
     step (as_itself r) more =
         ap (λ t. key_length false (t ++ 61 ∷ rest)) (raw_first c cs r)
-        ∙ ap (λ b. cond b 0 (1 + key_length (is_backslash c) (spelled cs ++ 61 ∷ rest))) r.no_separator
-        ∙ ap (λ b. 1 + key_length b (spelled cs ++ 61 ∷ rest)) r.no_backslash
-        ∙ ap (λ n. 1 + n) more ∙ one (length (spelled cs)) ∙ sym (ap length (raw_first c cs r))
+        ∙ ap (λ b. cond b 0 (1 + key_length (is_backslash c) (spelled_text cs ++ 61 ∷ rest))) r.no_separator
+        ∙ ap (λ b. 1 + key_length b (spelled_text cs ++ 61 ∷ rest)) r.no_backslash
+        ∙ ap (λ n. 1 + n) more ∙ one (length (spelled_text cs)) ∙ sym (ap length (raw_first c cs r))
       where
         one : (n : ℕ) → 1 + n ≡ suc n
         one n = omega arith
 
 -- it has no white space in front
-trim_front : (cs rest : List ℕ) → trimmed rest ≡ rest → trimmed (spelled cs ++ rest) ≡ spelled cs ++ rest
+trim_front : (cs rest : List ℕ) → without_white_space rest ≡ rest → without_white_space (spelled_text cs ++ rest) ≡ spelled_text cs ++ rest
 trim_front [] rest plain = plain
 trim_front (c ∷ cs) rest plain = step (spelling_of c)
   where
-    step : Spelling c → trimmed (spelled (c ∷ cs) ++ rest) ≡ spelled (c ∷ cs) ++ rest
+    step : Spelling c → without_white_space (spelled_text (c ∷ cs) ++ rest) ≡ spelled_text (c ∷ cs) ++ rest
     step (by_letter letter e) =
-        ap (λ t. trimmed (t ++ rest)) (escaped_first c letter cs e)
+        ap (λ t. without_white_space (t ++ rest)) (escaped_first c letter cs e)
         ∙ sym (ap (λ t. t ++ rest) (escaped_first c letter cs e))
     step (as_itself r) =
-        ap (λ t. trimmed (t ++ rest)) (raw_first c cs r)
-        ∙ cond-false _ _ _ ((or_parts (is_mark c) (is_blank c) r.no_separator).1)
+        ap (λ t. without_white_space (t ++ rest)) (raw_first c cs r)
+        ∙ cond-false _ _ _ ((or_parts (is_key_end c) (is_white_space c) r.no_separator).1)
         ∙ sym (ap (λ t. t ++ rest) (raw_first c cs r))
 
 -- it is no comment
-no_comment : (cs rest : List ℕ) → is_comment (spelled cs ++ 61 ∷ rest) ≡ false
+no_comment : (cs rest : List ℕ) → is_comment (spelled_text cs ++ 61 ∷ rest) ≡ false
 no_comment [] rest = refl
 no_comment (c ∷ cs) rest = step (spelling_of c)
   where
-    step : Spelling c → is_comment (spelled (c ∷ cs) ++ 61 ∷ rest) ≡ false
+    step : Spelling c → is_comment (spelled_text (c ∷ cs) ++ 61 ∷ rest) ≡ false
     step (by_letter letter e) = ap (λ t. is_comment (t ++ 61 ∷ rest)) (escaped_first c letter cs e)
     step (as_itself r) = ap (λ t. is_comment (t ++ 61 ∷ rest)) (raw_first c cs r) ∙ r.no_comment
 
@@ -222,7 +222,7 @@ goes_odd fs (c ∷ cs) =
     ap goes_on (sym (append_assoc fs (c ∷ []) cs)) ∙ goes_odd (fs ++ c ∷ []) cs
     ∙ ap (λ b. odd b cs) (goes_on_more fs c)
 
-never_odd : (cs rest : List ℕ) → odd false (spelled cs ++ rest) ≡ odd false rest
+never_odd : (cs rest : List ℕ) → odd false (spelled_text cs ++ rest) ≡ odd false rest
 never_odd [] rest = refl
 never_odd (c ∷ cs) rest = step (spelling_of c) (never_odd cs rest)
   where
@@ -230,76 +230,76 @@ never_odd (c ∷ cs) rest = step (spelling_of c) (never_odd cs rest)
     and_none true = refl
     and_none false = refl
 
-    step : Spelling c → odd false (spelled cs ++ rest) ≡ odd false rest →
-        odd false (spelled (c ∷ cs) ++ rest) ≡ odd false rest
+    step : Spelling c → odd false (spelled_text cs ++ rest) ≡ odd false rest →
+        odd false (spelled_text (c ∷ cs) ++ rest) ≡ odd false rest
     step (by_letter letter e) more =
         ap (λ t. odd false (t ++ rest)) (escaped_first c letter cs e)
-        ∙ ap (λ b. odd b (spelled cs ++ rest)) (and_none (is_backslash letter)) ∙ more
+        ∙ ap (λ b. odd b (spelled_text cs ++ rest)) (and_none (is_backslash letter)) ∙ more
     step (as_itself r) more =
         ap (λ t. odd false (t ++ rest)) (raw_first c cs r)
-        ∙ ap (λ b. odd (b && true) (spelled cs ++ rest)) r.no_backslash ∙ more
+        ∙ ap (λ b. odd (b && true) (spelled_text cs ++ rest)) r.no_backslash ∙ more
 
 -- its escapes mean the text
-meant : (cs : List ℕ) → unescaped (spelled cs) ≡ Some cs
+meant : (cs : List ℕ) → without_escapes (spelled_text cs) ≡ Some cs
 unfolding first_character
 meant [] = unescaped_end
 meant (c ∷ cs) = step (spelling_of c) (meant cs)
   where
-    read : (first : ℕ) (rest : List ℕ) → spelled (c ∷ cs) ≡ first ∷ rest →
-        first_character first rest ≡ Some (record { value = c; after = spelled cs })
-        → unescaped (spelled cs) ≡ Some cs →
-        unescaped (spelled (c ∷ cs)) ≡ Some (c ∷ cs)
+    read : (first : ℕ) (rest : List ℕ) → spelled_text (c ∷ cs) ≡ first ∷ rest →
+        first_character first rest ≡ Some (record { value = c; after = spelled_text cs })
+        → without_escapes (spelled_text cs) ≡ Some cs →
+        without_escapes (spelled_text (c ∷ cs)) ≡ Some (c ∷ cs)
     read first rest is one more =
-        ap unescaped is ∙ unescaped_step first rest
-        ∙ ap (option_and_then (λ (x : Character). option_map (λ l. x.value ∷ l) (unescaped x.after))) one
+        ap without_escapes is ∙ unescaped_step first rest
+        ∙ ap (option_and_then (λ (x : Character). option_map (λ l. x.value ∷ l) (without_escapes x.after))) one
         ∙ ap (option_map (λ l. c ∷ l)) more
 
-    step : Spelling c → unescaped (spelled cs) ≡ Some cs → unescaped (spelled (c ∷ cs)) ≡ Some (c ∷ cs)
+    step : Spelling c → without_escapes (spelled_text cs) ≡ Some cs → without_escapes (spelled_text (c ∷ cs)) ≡ Some (c ∷ cs)
     step (by_letter letter e) more =
-        read 92 (letter ∷ spelled cs) (escaped_first c letter cs e)
-        (cond-false _ _ _ e.no_unit ∙ ap (λ v. Some (record { value = v; after = spelled cs })) e.meaning) more
-    step (as_itself r) more = read c (spelled cs) (raw_first c cs r) (cond-false _ _ _ r.no_backslash) more
+        read 92 (letter ∷ spelled_text cs) (escaped_first c letter cs e)
+        (cond-false _ _ _ e.no_unit ∙ ap (λ v. Some (record { value = v; after = spelled_text cs })) e.meaning) more
+    step (as_itself r) more = read c (spelled_text cs) (raw_first c cs r) (cond-false _ _ _ r.no_backslash) more
 
 -- ---- a line of an entry
 
 line_clear : (e : Written) → NonePass is_line_end (line_of e)
 line_clear e =
-    clear e.0 (61 ∷ spelled e.1) (refl, subst (NonePass is_line_end) (append-nil (spelled e.1)) (clear e.1 [] tt))
+    clear e.0 (61 ∷ spelled_text e.1) (refl, subst (NonePass is_line_end) (append-nil (spelled_text e.1)) (clear e.1 [] tt))
 
-line_trimmed : (e : Written) → trimmed (line_of e) ≡ line_of e
-line_trimmed e = trim_front e.0 (61 ∷ spelled e.1) refl
+line_trimmed : (e : Written) → without_white_space (line_of e) ≡ line_of e
+line_trimmed e = trim_front e.0 (61 ∷ spelled_text e.1) refl
 
 line_begins : (e : Written) → is_passed_over (line_of e) ≡ false
-line_begins e = ap is_comment (line_trimmed e) ∙ no_comment e.0 (spelled e.1)
+line_begins e = ap is_comment (line_trimmed e) ∙ no_comment e.0 (spelled_text e.1)
 
 line_whole : (e : Written) → goes_on (line_of e) ≡ false
 line_whole e =
-    goes_odd [] (line_of e) ∙ ap (λ b. odd b (line_of e)) goes_on_none ∙ never_odd e.0 (61 ∷ spelled e.1)
-    ∙ ap (odd false) (sym (append-nil (spelled e.1))) ∙ never_odd e.1 []
+    goes_odd [] (line_of e) ∙ ap (λ b. odd b (line_of e)) goes_on_none ∙ never_odd e.0 (61 ∷ spelled_text e.1)
+    ∙ ap (odd false) (sym (append-nil (spelled_text e.1))) ∙ never_odd e.1 []
 
 line_part : (e : Written) → part_of (line_of e) ≡ line_of e
 line_part e = part_whole (line_of e) (line_whole e) ∙ line_trimmed e
 
-key_is : (e : Written) → take (key_length false (line_of e)) (line_of e) ≡ spelled e.0
+key_is : (e : Written) → take (key_length false (line_of e)) (line_of e) ≡ spelled_text e.0
 key_is e =
-    let within : length (spelled e.0) ≤ length (spelled e.0) = omega arith in
-    ap (λ n. take n (line_of e)) (key_ends e.0 (spelled e.1))
-    ∙ take-append-le (length (spelled e.0)) (spelled e.0) (61 ∷ spelled e.1) within ∙ take-length (spelled e.0)
+    let within : length (spelled_text e.0) ≤ length (spelled_text e.0) = omega arith in
+    ap (λ n. take n (line_of e)) (key_ends e.0 (spelled_text e.1))
+    ∙ take-append-le (length (spelled_text e.0)) (spelled_text e.0) (61 ∷ spelled_text e.1) within ∙ take-length (spelled_text e.0)
 
 value_is : (e : Written) →
-    trimmed (without_mark (trimmed (drop (key_length false (line_of e)) (line_of e)))) ≡ spelled e.1
+    without_white_space (without_mark (without_white_space (drop (key_length false (line_of e)) (line_of e)))) ≡ spelled_text e.1
 value_is e =
-    ap (λ n. trimmed (without_mark (trimmed (drop n (line_of e))))) (key_ends e.0 (spelled e.1))
-    ∙ ap (λ t. trimmed (without_mark (trimmed t)))
-    (drop_at (spelled e.0) (61 ∷ spelled e.1) (length (spelled e.0)) refl)
-    ∙ ap trimmed (sym (append-nil (spelled e.1))) ∙ trim_front e.1 [] refl ∙ append-nil (spelled e.1)
+    ap (λ n. without_white_space (without_mark (without_white_space (drop n (line_of e))))) (key_ends e.0 (spelled_text e.1))
+    ∙ ap (λ t. without_white_space (without_mark (without_white_space t)))
+    (drop_at (spelled_text e.0) (61 ∷ spelled_text e.1) (length (spelled_text e.0)) refl)
+    ∙ ap without_white_space (sym (append-nil (spelled_text e.1))) ∙ trim_front e.1 [] refl ∙ append-nil (spelled_text e.1)
 
-entry_is : (e : Written) → entry_of (line_of e) ≡ Some (in_bytes e)
-unfolding entry_of key_part value_part
+entry_is : (e : Written) → key_value_of (line_of e) ≡ Some (in_bytes e)
+unfolding key_value_of key_part value_part
 entry_is e =
-    ap (λ k. paired_up (unescaped k) (unescaped (value_part (line_of e)))) (key_is e)
-    ∙ ap (λ v. paired_up (unescaped (spelled e.0)) (unescaped v)) (value_is e)
-    ∙ ap (λ k. paired_up k (unescaped (spelled e.1))) (meant e.0) ∙ ap (paired_up (Some e.0)) (meant e.1)
+    ap (λ k. paired_up (without_escapes k) (without_escapes (value_part (line_of e)))) (key_is e)
+    ∙ ap (λ v. paired_up (without_escapes (spelled_text e.0)) (without_escapes v)) (value_is e)
+    ∙ ap (λ k. paired_up k (without_escapes (spelled_text e.1))) (meant e.0) ∙ ap (paired_up (Some e.0)) (meant e.1)
 
 -- ---- all of them
 
@@ -316,35 +316,35 @@ entries_from (e ∷ es) n =
     (map line_of es ++ [] ∷ []) (line_whole e))
     ∙ ap (λ t. all_entries (record { number = n; text = t } ∷ logical_from None (n + 1) (map line_of es ++ [] ∷ [])))
     (line_part e)
-    ∙ cond-false _ _ _ (some_line (spelled e.0) (spelled e.1))
+    ∙ cond-false _ _ _ (some_line (spelled_text e.0) (spelled_text e.1))
     ∙ ap (λ o. put_first n o (all_entries (logical_from None (n + 1) (map line_of es ++ [] ∷ [])))) (entry_is e)
     ∙ ap (put_first n (Some (in_bytes e))) (entries_from es (n + 1))
   where
     some_line : (s r : List ℕ) → nat_eq (length (s ++ 61 ∷ r)) 0 ≡ false
     some_line s r = positive (length (s ++ 61 ∷ r)) (omega (arith, length-append s (61 ∷ r)))
 
-natural_written : (es : List Written) → natural_lines (written es) ≡ map line_of es ++ [] ∷ []
+natural_written : (es : List Written) → natural_lines (written_text es) ≡ map line_of es ++ [] ∷ []
 unfolding natural_from
 natural_written [] = refl
 natural_written (e ∷ es) =
-    ap natural_lines (append_assoc (line_of e) (10 ∷ []) (written es))
-    ∙ natural_cut (line_of e) 10 (written es) [] (line_clear e) refl
-    ∙ ap (λ t. line_of e ∷ natural_from [] t) (after_feed (written es))
+    ap natural_lines (append_assoc (line_of e) (10 ∷ []) (written_text es))
+    ∙ natural_cut (line_of e) 10 (written_text es) [] (line_clear e) refl
+    ∙ ap (λ t. line_of e ∷ natural_from [] t) (after_feed (written_text es))
     ∙ ap (λ ls. line_of e ∷ ls) (natural_written es)
 
-scalars_written : (es : List Written) → are_scalars es ≡ true → scalars (written es) ≡ true
+scalars_written : (es : List Written) → are_scalars es ≡ true → scalars (written_text es) ≡ true
 scalars_written [] all = refl
 scalars_written (e ∷ es) all =
     let first = and_left_true _ _ all in
-    ap scalars (append_assoc (line_of e) (10 ∷ []) (written es)
-    ∙ append_assoc (spelled e.0) (61 ∷ spelled e.1) (10 ∷ written es))
-    ∙ scalars_spelled e.0 (61 ∷ (spelled e.1 ++ 10 ∷ written es)) (and_left_true _ _ first)
-    (scalars_spelled e.1 (10 ∷ written es) (and_right_true _ _ first) (scalars_written es (and_right_true _ _ all)))
+    ap scalars (append_assoc (line_of e) (10 ∷ []) (written_text es)
+    ∙ append_assoc (spelled_text e.0) (61 ∷ spelled_text e.1) (10 ∷ written_text es))
+    ∙ scalars_spelled e.0 (61 ∷ (spelled_text e.1 ++ 10 ∷ written_text es)) (and_left_true _ _ first)
+    (scalars_spelled e.1 (10 ∷ written_text es) (and_right_true _ _ first) (scalars_written es (and_right_true _ _ all)))
 
 pub read_back : EntriesReadBack
 unfolding properties_of
 read_back es all =
-    let text = written es in
+    let text = written_text es in
     let sc = scalars_written es all in
     cond-true _ _ _ (is_utf8-from_IsUtf8 (encode_utf8_all text) (text, (sc, refl)))
     ∙ ap read_text (chars-encodes text sc)

@@ -7,7 +7,7 @@ use Rattle.std.specs.declared.result.Result.TheVariants.{Ok}
 use Rattle.std.specs.List.{flat_map, list_all}
 use Rattle.std.specs.Str.{all_scalars, bytes_eq}
 use Rattle.gob_bytes.specs.Tables.{at_name, names_of}
-use Rattle.gob_props.specs.Properties.{is_line_end, natural_lines, is_backslash, is_separator, Entry, with_entry}
+use Rattle.gob_props.specs.Properties.{is_line_end, natural_lines, is_backslash, is_separator, KeyValue, with_entry}
 use Rattle.gob_props.specs.Properties.{properties_of}
 
 -- ---- natural lines
@@ -39,7 +39,7 @@ NaturalLinesAreTheText = (lines : List (List ℕ)) (text : List ℕ) → (natura
 -- ---- entries
 
 -- a key that is there takes the value in its place, another goes last
-pub record PutsEntry (es : List Entry) (new : Entry) : Type 0 where
+pub record PutsEntry (es : List KeyValue) (new : KeyValue) : Type 0 where
   pub values : (key : List ℕ) →
       at_name (with_entry es new) key ≡ cond (bytes_eq key new.0) (Some new.1) (at_name es key)
   pub keys : names_of (with_entry es new) ≡ cond (is_some (at_name es new.0)) (names_of es) (names_of es ++ new.0 ∷ [])
@@ -57,20 +57,20 @@ abbrev pub spelled_character : ℕ → List ℕ
 spelled_character c = if nat_eq c 10 then 92 ∷ 110 ∷ [] else (if nat_eq c 13 then 92 ∷ 114 ∷ [] else
     (if needs_backslash c then 92 ∷ c ∷ [] else c ∷ []))
 
-abbrev pub spelled : List ℕ → List ℕ
-spelled text = flat_map spelled_character text
+abbrev pub spelled_text : List ℕ → List ℕ
+spelled_text text = flat_map spelled_character text
 
 -- an entry on a line of its own
 abbrev pub line_of : Written → List ℕ
-line_of e = spelled e.0 ++ 61 ∷ spelled e.1
+line_of e = spelled_text e.0 ++ 61 ∷ spelled_text e.1
 
-abbrev pub written : List Written → List ℕ
-written es = flat_map (λ e. line_of e ++ 10 ∷ []) es
+abbrev pub written_text : List Written → List ℕ
+written_text es = flat_map (λ e. line_of e ++ 10 ∷ []) es
 
 abbrev pub are_scalars : List Written → Bool
 are_scalars es = list_all (λ e. all_scalars e.0 && all_scalars e.1) es
 
-abbrev pub in_bytes : Written → Entry
+abbrev pub in_bytes : Written → KeyValue
 in_bytes e = (encode_utf8_all e.0, encode_utf8_all e.1)
 
 -- entries that are written out are read back: each is put behind those before it, so that the last of equal keys
@@ -78,4 +78,4 @@ in_bytes e = (encode_utf8_all e.0, encode_utf8_all e.1)
 -- in the place of the first
 abbrev pub EntriesReadBack : Type 0
 EntriesReadBack = (es : List Written) → are_scalars es ≡ true →
-    properties_of (encode_utf8_all (written es)) ≡ Ok (fold with_entry [] (map in_bytes es))
+    properties_of (encode_utf8_all (written_text es)) ≡ Ok (fold with_entry [] (map in_bytes es))

@@ -35,16 +35,16 @@ natural_lines text = natural_from [] text
 -- ---- logical lines
 
 -- white space: a space, a tab or a form feed
-abbrev pub is_blank : ℕ → Bool
-is_blank c = nat_eq c 32 || nat_eq c 9 || nat_eq c 12
+abbrev pub is_white_space : ℕ → Bool
+is_white_space c = nat_eq c 32 || nat_eq c 9 || nat_eq c 12
 
 abbrev pub is_backslash : ℕ → Bool
 is_backslash c = nat_eq c 92
 
 -- a text without white space in front
-abbrev pub trimmed : List ℕ → List ℕ
-trimmed [] = []
-trimmed (c ∷ cs) = cond (is_blank c) (trimmed cs) (c ∷ cs)
+abbrev pub without_white_space : List ℕ → List ℕ
+without_white_space [] = []
+without_white_space (c ∷ cs) = cond (is_white_space c) (without_white_space cs) (c ∷ cs)
 
 -- nothing, or a text that begins with '#' or '!'
 abbrev pub is_comment : List ℕ → Bool
@@ -53,7 +53,7 @@ is_comment (c ∷ cs) = nat_eq c 35 || nat_eq c 33
 
 -- a natural line that begins no logical line: a blank one, or a comment
 abbrev pub is_passed_over : List ℕ → Bool
-is_passed_over line = is_comment (trimmed line)
+is_passed_over line = is_comment (without_white_space line)
 
 -- the next natural line goes on with this one, which ends with an odd number of backslashes
 unfoldable pub goes_on : List ℕ → Bool
@@ -62,7 +62,7 @@ goes_on line = nat_eq (suffix_len is_backslash line % 2) 1
 -- what a natural line adds to its logical line: all but white space in front and the backslash that makes the next one
 -- go on
 abbrev pub part_of : List ℕ → List ℕ
-part_of line = cond (goes_on line) (take (length (trimmed line) - 1) (trimmed line)) (trimmed line)
+part_of line = cond (goes_on line) (take (length (without_white_space line) - 1) (without_white_space line)) (without_white_space line)
 
 -- a logical line, and the number of the natural line that begins it
 pub record Logical : Type 0 where
@@ -92,11 +92,11 @@ logical_lines text = logical_from None 1 (natural_lines text)
 -- ---- key and value
 
 -- '=' or ':'
-abbrev pub is_mark : ℕ → Bool
-is_mark c = nat_eq c 61 || nat_eq c 58
+abbrev pub is_key_end : ℕ → Bool
+is_key_end c = nat_eq c 61 || nat_eq c 58
 
 abbrev pub is_separator : ℕ → Bool
-is_separator c = is_mark c || is_blank c
+is_separator c = is_key_end c || is_white_space c
 
 -- how long the key is: it ends at the first mark or white space that no backslash escapes. The test says whether the
 -- character before escapes the first of these
@@ -107,14 +107,14 @@ key_length escaped (c ∷ cs) = cond (not escaped && is_separator c) 0 (1 + key_
 -- a text without one mark in front
 abbrev pub without_mark : List ℕ → List ℕ
 without_mark [] = []
-without_mark (c ∷ cs) = cond (is_mark c) cs (c ∷ cs)
+without_mark (c ∷ cs) = cond (is_key_end c) cs (c ∷ cs)
 
 unfoldable pub key_part : List ℕ → List ℕ
 key_part text = take (key_length false text) text
 
 -- what follows the key, white space, at most one mark, and white space again
 unfoldable pub value_part : List ℕ → List ℕ
-value_part text = trimmed (without_mark (trimmed (drop (key_length false text) text)))
+value_part text = without_white_space (without_mark (without_white_space (drop (key_length false text) text)))
 
 -- ---- escapes
 
@@ -150,21 +150,21 @@ abbrev pub is_low : ℕ → Bool
 is_low unit = nat_le 0xDC00 unit && nat_le unit 0xDFFF
 
 -- the character of a high surrogate, where an escaped low one follows at once
-abbrev pub paired : ℕ → List ℕ → Option ℕ → Option Character
-paired high after None = None
-paired high after (Some low) = cond (is_low low)
+abbrev pub paired_character : ℕ → List ℕ → Option ℕ → Option Character
+paired_character high after None = None
+paired_character high after (Some low) = cond (is_low low)
     (Some (record { value = 0x10000 + (high - 0xD800) * 0x400 + (low - 0xDC00); after = drop 6 after })) None
 
 -- the character of a code unit with this text after it; a surrogate alone is none
-abbrev pub coded : List ℕ → Option ℕ → Option Character
-coded after None = None
-coded after (Some unit) = cond (is_high unit) (paired unit after (escaped_unit after))
+abbrev pub coded_character : List ℕ → Option ℕ → Option Character
+coded_character after None = None
+coded_character after (Some unit) = cond (is_high unit) (paired_character unit after (escaped_unit after))
     (cond (is_low unit) None (Some (record { value = unit; after = after })))
 
 -- the character of an escape, by what follows its backslash; a logical line never ends within one
 abbrev pub escape : List ℕ → Option Character
 escape [] = None
-escape (c ∷ cs) = cond (nat_eq c 117) (coded (drop 4 cs) (code_unit cs))
+escape (c ∷ cs) = cond (nat_eq c 117) (coded_character (drop 4 cs) (code_unit cs))
     (Some (record { value = meaning_of c; after = cs }))
 
 -- the first character of a text
@@ -179,50 +179,50 @@ read_characters (suc n) (c ∷ cs) = option_and_then
     (λ (x : Character). option_map (λ later. x.value ∷ later) (read_characters n x.after)) (first_character c cs)
 
 -- the text without escapes
-abbrev pub unescaped : List ℕ → Option (List ℕ)
-unescaped text = read_characters (length text) text
+abbrev pub without_escapes : List ℕ → Option (List ℕ)
+without_escapes text = read_characters (length text) text
 
 -- ---- entries
 
 -- a key and its value, in UTF-8
-abbrev pub Entry : Type 0
-Entry = List ℕ × List ℕ
+abbrev pub KeyValue : Type 0
+KeyValue = List ℕ × List ℕ
 
-abbrev pub paired_up : Option (List ℕ) → Option (List ℕ) → Option Entry
+abbrev pub paired_up : Option (List ℕ) → Option (List ℕ) → Option KeyValue
 paired_up None value = None
 paired_up (Some key) None = None
 paired_up (Some key) (Some value) = Some (encode_utf8_all key, encode_utf8_all value)
 
 -- the entry of a logical line's text; none where an escape is malformed
-unfoldable pub entry_of : List ℕ → Option Entry
-entry_of text = paired_up (unescaped (key_part text)) (unescaped (value_part text))
+unfoldable pub key_value_of : List ℕ → Option KeyValue
+key_value_of text = paired_up (without_escapes (key_part text)) (without_escapes (value_part text))
 
 -- an entry before the others, unless it or one of them is malformed; the first such line counts
-abbrev pub put_first : ℕ → Option Entry → Result (List Entry) PropsFault → Result (List Entry) PropsFault
+abbrev pub put_first : ℕ → Option KeyValue → Result (List KeyValue) PropsFault → Result (List KeyValue) PropsFault
 put_first number None later = Err (BadEscape number)
 put_first number (Some e) (Ok es) = Ok (e ∷ es)
 put_first number (Some e) (Err fault) = Err fault
 
 -- the entries of logical lines in their order; an empty line has none
-unfoldable pub all_entries : List Logical → Result (List Entry) PropsFault
+unfoldable pub all_entries : List Logical → Result (List KeyValue) PropsFault
 all_entries [] = Ok []
 all_entries (l ∷ ls) = cond (nat_eq (length l.text) 0) (all_entries ls)
-    (put_first l.number (entry_of l.text) (all_entries ls))
+    (put_first l.number (key_value_of l.text) (all_entries ls))
 
 -- the entries with one more: a key that is there keeps its place and takes the value, another goes last
-abbrev pub with_entry : List Entry → Entry → List Entry
+abbrev pub with_entry : List KeyValue → KeyValue → List KeyValue
 with_entry [] new = new ∷ []
 with_entry (e ∷ es) new = cond (bytes_eq new.0 e.0) ((e.0, new.1) ∷ es) (e ∷ with_entry es new)
 
 -- these entries and those that are read after them
-abbrev pub with_all : List Entry → Result (List Entry) PropsFault → Result (List Entry) PropsFault
+abbrev pub with_all : List KeyValue → Result (List KeyValue) PropsFault → Result (List KeyValue) PropsFault
 with_all es (Ok later) = Ok (fold with_entry es later)
 with_all es (Err fault) = Err fault
 
 -- the keys and values of a text, or why it has none
-abbrev pub read_text : List ℕ → Result (List Entry) PropsFault
+abbrev pub read_text : List ℕ → Result (List KeyValue) PropsFault
 read_text text = with_all [] (all_entries (logical_lines text))
 
 -- the keys and values of a file, in the order of the keys' first places, or why it has none
-unfoldable pub properties_of : List ℕ → Result (List Entry) PropsFault
+unfoldable pub properties_of : List ℕ → Result (List KeyValue) PropsFault
 properties_of bytes = cond (is_utf8 bytes) (read_text (chars bytes)) (Err NotUtf8)

@@ -10,13 +10,13 @@ use Rattle.std.specs.declared.result.Result.TheVariants.{Ok, Err}
 use Rattle.gob_props.specs.declared.fault.PropsFault.{PropsFault}
 use Rattle.gob_props.specs.declared.fault.PropsFault.TheVariants.{BadEscape}
 use Rattle.std.specs.Str.{chars}
-use Rattle.gob_props.specs.Properties.{Logical, natural_lines, logical_from, Character, Entry, entry_of, with_entry}
+use Rattle.gob_props.specs.Properties.{Logical, natural_lines, logical_from, Character, KeyValue, key_value_of, with_entry}
 
 -- what follows the line end in front
-abbrev pub after_end : List ℕ → List ℕ
-after_end [] = []
-after_end (c ∷ []) = []
-after_end (c ∷ d ∷ cs) = cond (nat_eq c 13 && nat_eq d 10) cs (d ∷ cs)
+abbrev pub behind_line_end : List ℕ → List ℕ
+behind_line_end [] = []
+behind_line_end (c ∷ []) = []
+behind_line_end (c ∷ d ∷ cs) = cond (nat_eq c 13 && nat_eq d 10) cs (d ∷ cs)
 
 -- the natural lines of what is left of a text, if anything is
 abbrev pub lines_left : Option (Bor (List ℕ)) → List (List ℕ)
@@ -38,13 +38,13 @@ abbrev pub character_of : ℕ × Bor (List ℕ) → Character
 character_of p = record { value = p.0; after = p.1.now }
 
 -- the bytes of a key and a value
-abbrev pub entry_from : String Global × String Global → Entry
+abbrev pub entry_from : String Global × String Global → KeyValue
 entry_from p = (string_bytes p.0, string_bytes p.1)
 
 -- the entries with that of a logical line, or the fault that its escapes have
-abbrev pub put_entry : List Entry → ℕ → Option Entry → Result (List Entry) PropsFault
+abbrev pub put_entry : List KeyValue → ℕ → Option KeyValue → Result (List KeyValue) PropsFault
 put_entry es number None = Err (BadEscape number)
 put_entry es number (Some e) = Ok (with_entry es e)
 
-abbrev pub read_line : List Entry → Logical → Result (List Entry) PropsFault
-read_line es l = cond (nat_eq (length l.text) 0) (Ok es) (put_entry es l.number (entry_of l.text))
+abbrev pub read_line : List KeyValue → Logical → Result (List KeyValue) PropsFault
+read_line es l = cond (nat_eq (length l.text) 0) (Ok es) (put_entry es l.number (key_value_of l.text))

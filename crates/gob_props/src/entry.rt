@@ -10,7 +10,7 @@ use crate::lines::is_blank;
 use std::alloc::{AllocError, Global};
 
 fn is_mark(c: char) -> bool
-    ensures { result ≡ spec.is_mark c }
+    ensures { result ≡ spec.is_key_end c }
 {
     c == '=' || c == ':'
 }
@@ -36,7 +36,7 @@ fn key_length(text: &[char]) -> usize
 }
 
 fn trimmed(text: &[char]) -> &[char]
-    ensures { result.now ≡ spec.trimmed text.now }
+    ensures { result.now ≡ spec.without_white_space text.now }
 {
     let mut left = text;
     while let [first, rest @ ..] = left {
@@ -110,7 +110,7 @@ fn is_low(unit: u32) -> bool
 fn paired(high: u32, after: &[char]) -> Option<(char, &[char])>
     requires { spec.is_high high ≡ true }
     ensures value { option_map character_of result
-        ≡ spec.paired high after.now (spec.escaped_unit after.now) }
+        ≡ spec.paired_character high after.now (spec.escaped_unit after.now) }
     ensures shorter { IfSome result (λ p. length p.1.now ≤ length after.now) }
 {
     let low = escaped_unit(after)?;
@@ -154,7 +154,7 @@ fn first_character(first: char, rest: &[char]) -> Option<(char, &[char])>
 // The text without its escapes, where none is malformed.
 fn unescape(alloc: Global, text: &[char]) -> Result<Option<String>, AllocError>
     ensures { IfOk result (λ found.
-        option_map string_bytes found ≡ option_map encode_utf8_all (spec.unescaped text.now)) }
+        option_map string_bytes found ≡ option_map encode_utf8_all (spec.without_escapes text.now)) }
 {
     let mut out = String::new(alloc);
     let mut left = text;
@@ -175,7 +175,7 @@ pub(crate) fn read_entry(
     alloc: Global,
     text: &[char],
 ) -> Result<Option<(String, String)>, AllocError>
-    ensures { IfOk result (λ found. option_map entry_from found ≡ spec.entry_of text.now) }
+    ensures { IfOk result (λ found. option_map entry_from found ≡ spec.key_value_of text.now) }
 {
     let (key, rest) = text.split_at(key_length(text));
     let value = trimmed(without_mark(trimmed(rest)));

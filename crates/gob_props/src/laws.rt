@@ -2,7 +2,7 @@
 //! nothing.
 
 ghost use Rattle.std.specs.Prelude.{List};
-ghost use Rattle.gob_props.specs.Properties.{Entry};
+ghost use Rattle.gob_props.specs.Properties.{KeyValue};
 ghost use Rattle.gob_props.specs.Laws.{EntriesReadBack, NaturalLinesAreTheText, PutsEntry};
 
 /// Natural lines hold no line end, and with their line ends they are the text.
@@ -12,7 +12,7 @@ pub fn natural_lines_are_the_text()
 
 /// The last of equal keys counts, in the place of the first.
 pub fn keys_keep_their_places()
-    ensures { (es : List Entry) (new : Entry) → PutsEntry es new }
+    ensures { (es : List KeyValue) (new : KeyValue) → PutsEntry es new }
 {}
 
 /// Entries that are written out are read back.

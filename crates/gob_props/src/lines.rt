@@ -2,7 +2,7 @@
 ghost use Rattle.std.specs.Prelude.{◌≡◌, ◌+◌, ◌<◌, ◌≤◌, ◌++◌, ◌∷◌, ℕ, List, [], length, IfOk};
 ghost use Rattle.std.specs.Str.{chars};
 ghost use Rattle.gob_props.specs.Properties as spec;
-ghost use Rattle.gob_props.specs.Steps.{after_end, later_lines, lines_left, most_lines};
+ghost use Rattle.gob_props.specs.Steps.{behind_line_end, later_lines, lines_left, most_lines};
 
 use gob_plan::split_first;
 use std::alloc::{AllocError, Global};
@@ -10,14 +10,14 @@ use std::alloc::{AllocError, Global};
 const LINE_ENDS: [char; 2] = ['\n', '\r'];
 
 pub(crate) fn is_blank(c: char) -> bool
-    ensures { result ≡ spec.is_blank c }
+    ensures { result ≡ spec.is_white_space c }
 {
     c == ' ' || c == '\t' || c == '\u{c}'
 }
 
 // The text without the white space in front.
 fn trimmed(text: &str) -> &str
-    ensures { chars result.now ≡ spec.trimmed (chars text.now) }
+    ensures { chars result.now ≡ spec.without_white_space (chars text.now) }
 {
     let mut left = text;
     while let Some((first, rest)) = split_first(left) {
@@ -31,7 +31,7 @@ fn trimmed(text: &str) -> &str
 
 // What follows the line end in front.
 fn after_end(text: &str) -> &str
-    ensures rest { chars result.now ≡ after_end (chars text.now) }
+    ensures rest { chars result.now ≡ behind_line_end (chars text.now) }
     ensures shorter { 0 < length text.now → length result.now < length text.now }
 {
     let Some((first, rest)) = split_first(text) else {

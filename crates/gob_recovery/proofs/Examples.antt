@@ -15,7 +15,7 @@ use Rattle.gob_recovery.specs.Sequence.{CommitStep, move, remove, step_line, Wel
 use Rattle.gob_recovery.specs.Settle.{do_steps, without_staging, can_do, Open, IsSettled, Settles, IsDamaged, sequence}
 use Rattle.gob_recovery.specs.Settle.{lost, SettlesAs}
 use Rattle.gob_recovery.specs.Commits.{OnlyBelow, part_done}
-use Rattle.gob_recovery.specs.Examples.{steps, text, entry, calls, after_calls, stopped, committed, IsCommitted}
+use Rattle.gob_recovery.specs.Examples.{steps, one_move_text, entry, calls, after_calls, stopped_files, committed_files, IsCommitted}
 use Rattle.gob_recovery.specs.Examples.{WorkedCommit, BetweenMoves, WorkedDamage}
 use Rattle.gob_recovery.proofs.Again.{Off, turned}
 use Rattle.gob_recovery.proofs.Opened.{steps_still}
@@ -64,7 +64,7 @@ nine_staged = (
             (
               λ m. below_created (staging job) (codes "j1/stage/seq") m refl,
               (
-                λ m. below_appended (staging job) (codes "j1/stage/seq") text m refl,
+                λ m. below_appended (staging job) (codes "j1/stage/seq") one_move_text m refl,
                 (
                   λ m. below_synced (staging job) (codes "j1/stage/seq") m refl,
                   tt,
@@ -78,8 +78,8 @@ nine_staged = (
   ),
 )
 
-stopped_below : (k : ℕ) → k ≤ 9 → OnlyBelow (staging job) entry (stopped k)
-unfolding stopped
+stopped_below : (k : ℕ) → k ≤ 9 → OnlyBelow (staging job) entry (stopped_files k)
+unfolding stopped_files
 stopped_below k less = stays_below 9 calls k entry less nine_staged
 
 entry_settled : IsSettled job entry
@@ -92,7 +92,7 @@ entry_settled = record {
 before_opened : (n : Files) → OnlyBelow (staging job) entry n → SettlesAs job entry n
 before_opened n below = (staged_free job entry n entry_settled (λ name e. below name e)).1
 
-torn_staged : (n : Files) → Torn (codes "j1/stage/seq") (after_append (codes "j1/stage/seq") text) (stopped 7) n
+torn_staged : (n : Files) → Torn (codes "j1/stage/seq") (after_append (codes "j1/stage/seq") one_move_text) (stopped_files 7) n
     → OnlyBelow (staging job) entry n
 torn_staged n torn = λ name e.
     torn.others name (λ is. true≢false (sym (ap (begins_with (staging job)) is ∙ refl) ∙ e))
@@ -100,7 +100,7 @@ torn_staged n torn = λ name e.
 
 -- ---- the sequence
 
-spelled_is : sequence_text steps ≡ text
+spelled_is : sequence_text steps ≡ one_move_text
 unfolding sequence_text digits
 spelled_is = refl
 
@@ -114,24 +114,24 @@ fits_is = record {
   );
 }
 
-can_commit : CanCommit job steps (stopped 6)
-unfolding stopped after_calls after_create after_append after_sync
+can_commit : CanCommit job steps (stopped_files 6)
+unfolding stopped_files after_calls after_create after_append after_sync
 can_commit = record { fits = fits_is; closed = refl; can = refl }
 
-staged_there : stopped 9 (codes "j1/stage/seq") ≡ Some (clean (sequence_text steps))
-unfolding stopped after_calls after_create after_append after_sync
+staged_there : stopped_files 9 (codes "j1/stage/seq") ≡ Some (clean (sequence_text steps))
+unfolding stopped_files after_calls after_create after_append after_sync
 staged_there = ap (λ (t : List ℕ). Some (clean t)) (sym spelled_is)
 
-staged_others : (name : List ℕ) → bytes_eq name (codes "j1/stage/seq") ≡ false → stopped 9 name ≡ stopped 6 name
-unfolding stopped after_calls after_create after_append after_sync
+staged_others : (name : List ℕ) → bytes_eq name (codes "j1/stage/seq") ≡ false → stopped_files 9 name ≡ stopped_files 6 name
+unfolding stopped_files after_calls after_create after_append after_sync
 staged_others name e =
-    ap (λ b. cond b (stopped 9 (codes "j1/stage/seq")) (stopped 8 name)) e
-    ∙ (ap (λ b. cond b (stopped 8 (codes "j1/stage/seq")) (stopped 7 name)) e
-    ∙ ap (λ b. cond b (Some (clean [])) (stopped 6 name)) e)
+    ap (λ b. cond b (stopped_files 9 (codes "j1/stage/seq")) (stopped_files 8 name)) e
+    ∙ (ap (λ b. cond b (stopped_files 8 (codes "j1/stage/seq")) (stopped_files 7 name)) e
+    ∙ ap (λ b. cond b (Some (clean [])) (stopped_files 6 name)) e)
 
-opens : Opens job steps (stopped 6) (stopped 10)
-unfolding stopped after_calls
-opens = renamed_opens job steps (stopped 6) (stopped 9) staged_there staged_others
+opens : Opens job steps (stopped_files 6) (stopped_files 10)
+unfolding stopped_files after_calls
+opens = renamed_opens job steps (stopped_files 6) (stopped_files 9) staged_there staged_others
 
 -- ---- from there on
 
@@ -154,34 +154,34 @@ split (suc n) j [] m = ap (λ k. after_calls (take k []) m) (one_more n j)
     ∙ sym (ap (λ cs. after_calls cs m) (none_left j))
 split (suc n) j (call ∷ cs) m = ap (λ k. after_calls (take k (call ∷ cs)) m) (one_more n j) ∙ split n j cs (call m)
 
-closes : after_calls (drop 10 calls) (stopped 10) ≡ part_done job steps (stopped 6)
-unfolding after_calls do_steps stopped after_create after_append after_sync after_rename after_remove
-closes = closes_is job steps (stopped 6) (stopped 10) can_commit opens
+closes : after_calls (drop 10 calls) (stopped_files 10) ≡ part_done job steps (stopped_files 6)
+unfolding after_calls do_steps stopped_files after_create after_append after_sync after_rename after_remove
+closes = closes_is job steps (stopped_files 6) (stopped_files 10) can_commit opens
 
-later : (j : ℕ) → SettlesAs job committed (after_calls (take j (drop 10 calls)) (stopped 10))
-unfolding after_calls stopped committed do_steps after_create after_append after_sync after_rename after_remove
-later zero = (steps_go job steps (stopped 6) (stopped 10) 0 can_commit opens).images
-later (suc zero) = (steps_go job steps (stopped 6) (stopped 10) 1 can_commit opens).images
-later (suc (suc zero)) = (steps_go job steps (stopped 6) (stopped 10) 2 can_commit opens).images
-later (suc (suc (suc zero))) = (steps_go job steps (stopped 6) (stopped 10) 3 can_commit opens).images
+later : (j : ℕ) → SettlesAs job committed_files (after_calls (take j (drop 10 calls)) (stopped_files 10))
+unfolding after_calls stopped_files committed_files do_steps after_create after_append after_sync after_rename after_remove
+later zero = (steps_go job steps (stopped_files 6) (stopped_files 10) 0 can_commit opens).images
+later (suc zero) = (steps_go job steps (stopped_files 6) (stopped_files 10) 1 can_commit opens).images
+later (suc (suc zero)) = (steps_go job steps (stopped_files 6) (stopped_files 10) 2 can_commit opens).images
+later (suc (suc (suc zero))) = (steps_go job steps (stopped_files 6) (stopped_files 10) 3 can_commit opens).images
 later (suc (suc (suc (suc j)))) =
-    subst (λ cs. SettlesAs job committed (after_calls cs (after_calls (drop 10 calls) (stopped 10))))
+    subst (λ cs. SettlesAs job committed_files (after_calls cs (after_calls (drop 10 calls) (stopped_files 10))))
     (sym (none_left j))
-    (closed_settles job steps (stopped 6) (after_calls (drop 10 calls) (stopped 10)) can_commit
+    (closed_settles job steps (stopped_files 6) (after_calls (drop 10 calls) (stopped_files 10)) can_commit
     (λ name e. ap (λ (m : Files). m name) closes)).1
 
-from_ten : (k : ℕ) → 10 ≤ k → SettlesAs job committed (stopped k)
-unfolding stopped
+from_ten : (k : ℕ) → 10 ≤ k → SettlesAs job committed_files (stopped_files k)
+unfolding stopped_files
 from_ten k more =
-    let split_up : after_calls (take k calls) entry ≡ after_calls (take (k - 10) (drop 10 calls)) (stopped 10) =
+    let split_up : after_calls (take k calls) entry ≡ after_calls (take (k - 10) (drop 10 calls)) (stopped_files 10) =
     ap (λ n. after_calls (take n calls) entry) (let e : k ≡ 10 + (k - 10) = omega arith in e)
     ∙ split 10 (k - 10) calls entry in
-    subst (SettlesAs job committed) (sym split_up) (later (k - 10))
+    subst (SettlesAs job committed_files) (sym split_up) (later (k - 10))
 
 others_stay : (name : List ℕ) → list_any (bytes_eq name) (codes "j1/out/a.txt" ∷ codes "j1/state" ∷ codes "j1/delta/1" ∷
     []) ≡ false
-    → begins_with (staging job) name ≡ false → committed name ≡ entry name
-unfolding committed
+    → begins_with (staging job) name ≡ false → committed_files name ≡ entry name
+unfolding committed_files
 others_stay name apart outside =
     let a = or_both _ _ apart in
     let b = or_both _ _ a.1 in
@@ -193,16 +193,16 @@ others_stay name apart outside =
         ((c.0, tt), tt),
       ),
     ) in
-    cleaned_other job (do_steps steps (stopped 6)) name outside
-    ∙ (steps_still steps (stopped 6) name off ∙ stopped_below 6 (omega arith) name outside)
+    cleaned_other job (do_steps steps (stopped_files 6)) name outside
+    ∙ (steps_still steps (stopped_files 6) name off ∙ stopped_below 6 (omega arith) name outside)
 
-is_committed : IsCommitted committed
-unfolding committed without_staging do_steps stopped after_calls after_create after_append after_sync after_rename
+is_committed : IsCommitted committed_files
+unfolding committed_files without_staging do_steps stopped_files after_calls after_create after_append after_sync after_rename
     after_remove
 is_committed = record { published = refl; state = refl; gone = refl; others = others_stay }
 
-whole_is : stopped 14 ≡ part_done job steps (stopped 6)
-unfolding stopped
+whole_is : stopped_files 14 ≡ part_done job steps (stopped_files 6)
+unfolding stopped_files
 whole_is = split 10 4 calls entry ∙ closes
 
 pub worked_commit : WorkedCommit
@@ -210,25 +210,25 @@ worked_commit = record {
   spelled = spelled_is;
   fits = fits_is;
   is = is_committed;
-  before = λ k less. before_opened (stopped k) (stopped_below k less);
+  before = λ k less. before_opened (stopped_files k) (stopped_below k less);
   torn = λ n torn. before_opened n (torn_staged n torn);
   after = from_ten;
   whole = whole_is;
 }
 
-eleven : stopped 11 ≡ do_steps (take 1 steps) (stopped 10)
-unfolding stopped after_calls do_steps after_create after_append after_sync after_rename after_remove
+eleven : stopped_files 11 ≡ do_steps (take 1 steps) (stopped_files 10)
+unfolding stopped_files after_calls do_steps after_create after_append after_sync after_rename after_remove
 eleven = refl
 
 pub between_moves : BetweenMoves
-unfolding committed stopped after_calls after_create after_append after_sync after_rename
+unfolding committed_files stopped_files after_calls after_create after_append after_sync after_rename
 between_moves = record {
   gone = refl;
   there = refl;
   waiting = refl;
   old = refl;
-  settles = subst (λ m. Settles job m committed) (sym eleven)
-      (steps_go job steps (stopped 6) (stopped 10) 1 can_commit opens).settles;
+  settles = subst (λ m. Settles job m committed_files) (sym eleven)
+      (steps_go job steps (stopped_files 6) (stopped_files 10) 1 can_commit opens).settles;
 }
 
 -- ---- damage
@@ -253,6 +253,6 @@ worked_damage = record {
       (λ ss reads. true≢false (sym (ap ends_in_lf reads.spelled ∙ sequence_ends ss)));
   lost = lost (move (codes "j1/stage/0-0/out/a.txt") (codes "j1/out/a.txt") ∷ []) (codes "j1/stage/state")
       (codes "j1/state") (remove (codes "j1/delta/1") ∷ [])
-      (record { file = clean text; here = refl; reads = record { spelled = sym spelled_is; fits = fits_is } }) refl
+      (record { file = clean one_move_text; here = refl; reads = record { spelled = sym spelled_is; fits = fits_is } }) refl
       refl;
 }

@@ -5,9 +5,9 @@ use Rattle.std.specs.List.{list_all, flat_map}
 use Rattle.std.proofs.lemmas.Bool.{and_parts, and_from, eqb-true}
 use Rattle.std.proofs.lemmas.Bool.{true≢false}
 use Rattle.std.proofs.lemmas.Bool.Decides.{nat_tests}
-use Rattle.gob_bytes.specs.Words.{words, numbered}
+use Rattle.gob_bytes.specs.Words.{words, numbered_line}
 use Rattle.gob_device.specs.Disk.{contents_of}
-use Rattle.gob_recovery.specs.Sequence.{CommitStep, move, remove, is_name_byte, is_file_name, step_fits, step_line}
+use Rattle.gob_recovery.specs.Sequence.{CommitStep, move, remove, is_sequence_byte, is_file_name, step_fits, step_line}
 use Rattle.gob_recovery.specs.Sequence.{sequence_text}
 use Rattle.gob_recovery.specs.Settle.{after_finish, Settles}
 use Rattle.gob_recovery.specs.Laws.{OneSpelling, SettlesToOne}
@@ -40,20 +40,20 @@ pub cancel : (xs a b : List ℕ) → xs ++ a ≡ xs ++ b → a ≡ b
 cancel [] a b e = e
 cancel (x ∷ xs) a b e = cancel xs a b (let tail : xs ++ a ≡ xs ++ b = cc in tail)
 
-free_byte : (sep b : ℕ) → is_name_byte sep ≡ false → is_name_byte b ≡ true → not (nat_eq b sep) ≡ true
+free_byte : (sep b : ℕ) → is_sequence_byte sep ≡ false → is_sequence_byte b ≡ true → not (nat_eq b sep) ≡ true
 free_byte sep b out in_ = elim (nat_eq b sep) as (λ v. nat_eq b sep ≡ v → not v ≡ true) [
-  | true ↦ λ e. absurd (let no : is_name_byte b ≡ false = ap is_name_byte (eqb-true b sep e) ∙ out in
+  | true ↦ λ e. absurd (let no : is_sequence_byte b ≡ false = ap is_sequence_byte (eqb-true b sep e) ∙ out in
       true≢false (sym in_ ∙ no))
   | false ↦ λ e. refl
 ] refl
 
-free_bytes : (sep : ℕ) (bytes : List ℕ) → is_name_byte sep ≡ false → list_all is_name_byte bytes ≡ true → Free sep bytes
+free_bytes : (sep : ℕ) (bytes : List ℕ) → is_sequence_byte sep ≡ false → list_all is_sequence_byte bytes ≡ true → Free sep bytes
 free_bytes sep [] out all = refl
 free_bytes sep (b ∷ bs) out all =
-    let p = and_parts (is_name_byte b) (list_all is_name_byte bs) all in
+    let p = and_parts (is_sequence_byte b) (list_all is_sequence_byte bs) all in
     and_from _ _ (free_byte sep b out p.0) (free_bytes sep bs out p.1)
 
-pub free_name : (sep : ℕ) (name : List ℕ) → is_name_byte sep ≡ false → is_file_name name ≡ true → Free sep name
+pub free_name : (sep : ℕ) (name : List ℕ) → is_sequence_byte sep ≡ false → is_file_name name ≡ true → Free sep name
 free_name sep [] out named = refl
 free_name sep (b ∷ bs) out named = free_bytes sep (b ∷ bs) out named
 
@@ -65,7 +65,7 @@ remove_text : (a rest : List ℕ) → step_line (remove a) ++ rest ≡ codes "re
 remove_text a rest = ap (λ x. codes "remove " ++ x) (append_assoc a (10 ∷ []) rest)
 
 abbrev pub last_line : ℕ → List ℕ
-last_line n = numbered (codes "end") (n ∷ [])
+last_line n = numbered_line (codes "end") (n ∷ [])
 
 -- the steps and the last line
 abbrev pub body : List CommitStep → ℕ → List ℕ

@@ -15,8 +15,8 @@ abbrev pub steps : List CommitStep
 steps = move (codes "j1/stage/0-0/out/a.txt") (codes "j1/out/a.txt") ∷ move (codes "j1/stage/state") (codes "j1/state")
     ∷ remove (codes "j1/delta/1") ∷ []
 
-abbrev pub text : List ℕ
-text = codes "gobblin-sequence 1\nmove j1/stage/0-0/out/a.txt j1/out/a.txt\nmove j1/stage/state j1/state\nremove j1/delta/1\nend 3\n"
+abbrev pub one_move_text : List ℕ
+one_move_text = codes "gobblin-sequence 1\nmove j1/stage/0-0/out/a.txt j1/out/a.txt\nmove j1/stage/state j1/state\nremove j1/delta/1\nend 3\n"
 
 -- what stood before the commit
 abbrev pub entry : Files
@@ -28,7 +28,7 @@ calls = after_create (codes "j1/stage/0-0/out/a.txt") ∷ after_append (codes "j
     after_sync (codes "j1/stage/0-0/out/a.txt")
     ∷ after_create (codes "j1/stage/state") ∷ after_append (codes "j1/stage/state") (codes "new\n") ∷ after_sync
     (codes "j1/stage/state")
-    ∷ after_create (codes "j1/stage/seq") ∷ after_append (codes "j1/stage/seq") text ∷ after_sync (codes "j1/stage/seq")
+    ∷ after_create (codes "j1/stage/seq") ∷ after_append (codes "j1/stage/seq") one_move_text ∷ after_sync (codes "j1/stage/seq")
     ∷ after_rename (codes "j1/stage/seq") (codes "j1/seq")
     ∷ after_rename (codes "j1/stage/0-0/out/a.txt") (codes "j1/out/a.txt") ∷ after_rename (codes "j1/stage/state")
     (codes "j1/state")
@@ -40,12 +40,12 @@ after_calls [] m = m
 after_calls (call ∷ calls) m = after_calls calls (call m)
 
 -- the map where the commit was stopped after so many calls
-unfoldable pub stopped : ℕ → Files
-stopped k = after_calls (take k calls) entry
+unfoldable pub stopped_files : ℕ → Files
+stopped_files k = after_calls (take k calls) entry
 
 -- what stands after the commit
-unfoldable pub committed : Files
-committed = without_staging (codes "j1") (do_steps steps (stopped 6))
+unfoldable pub committed_files : Files
+committed_files = without_staging (codes "j1") (do_steps steps (stopped_files 6))
 
 -- what is published then, and that nothing else but the three names and what is staged has changed
 pub record IsCommitted (m : Files) : Type 0 where
@@ -58,26 +58,26 @@ pub record IsCommitted (m : Files) : Type 0 where
 
 -- a stop before the sequence is open settles to what stood, and one from there on to what the steps leave
 pub record WorkedCommit : Type 0 where
-  pub spelled : sequence_text steps ≡ text
+  pub spelled : sequence_text steps ≡ one_move_text
   pub fits : WellFormed (codes "j1") steps
-  pub is : IsCommitted committed
-  pub before : (k : ℕ) → k ≤ 9 → SettlesAs (codes "j1") entry (stopped k)
-  pub torn : (n : Files) → Torn (codes "j1/stage/seq") (after_append (codes "j1/stage/seq") text) (stopped 7) n
+  pub is : IsCommitted committed_files
+  pub before : (k : ℕ) → k ≤ 9 → SettlesAs (codes "j1") entry (stopped_files k)
+  pub torn : (n : Files) → Torn (codes "j1/stage/seq") (after_append (codes "j1/stage/seq") one_move_text) (stopped_files 7) n
       → SettlesAs (codes "j1") entry n
-  pub after : (k : ℕ) → 10 ≤ k → SettlesAs (codes "j1") committed (stopped k)
-  pub whole : stopped 14 ≡ part_done (codes "j1") steps (stopped 6)
+  pub after : (k : ℕ) → 10 ≤ k → SettlesAs (codes "j1") committed_files (stopped_files k)
+  pub whole : stopped_files 14 ≡ part_done (codes "j1") steps (stopped_files 6)
 
 -- between its two moves the sequence is open: one of its sources is gone, and the other is there
 pub record BetweenMoves : Type 0 where
-  pub gone : stopped 11 (codes "j1/stage/0-0/out/a.txt") ≡ None
-  pub there : stopped 11 (codes "j1/out/a.txt") ≡ Some (clean (codes "x\n"))
-  pub waiting : stopped 11 (codes "j1/stage/state") ≡ Some (clean (codes "new\n"))
-  pub old : stopped 11 (codes "j1/state") ≡ None
-  pub settles : Settles (codes "j1") (stopped 11) committed
+  pub gone : stopped_files 11 (codes "j1/stage/0-0/out/a.txt") ≡ None
+  pub there : stopped_files 11 (codes "j1/out/a.txt") ≡ Some (clean (codes "x\n"))
+  pub waiting : stopped_files 11 (codes "j1/stage/state") ≡ Some (clean (codes "new\n"))
+  pub old : stopped_files 11 (codes "j1/state") ≡ None
+  pub settles : Settles (codes "j1") (stopped_files 11) committed_files
 
 -- a sequence without its last byte, and one whose first source that is lost is the second one
 pub record WorkedDamage : Type 0 where
   pub cut : IsDamaged (codes "j1") (put no_files (codes "j1/seq") (Some (clean (codes "gobblin-sequence 1\nend 0"))))
       (codes "j1/seq")
-  pub lost : IsDamaged (codes "j1") (put (put no_files (codes "j1/seq") (Some (clean text))) (codes "j1/out/a.txt")
+  pub lost : IsDamaged (codes "j1") (put (put no_files (codes "j1/seq") (Some (clean one_move_text))) (codes "j1/out/a.txt")
       (Some (clean []))) (codes "j1/stage/state")

@@ -4,7 +4,7 @@ use Rattle.std.specs.List.{list_all, flat_map, IsDistinct}
 use Rattle.std.specs.Str.{bytes_eq}
 use Rattle.gob_bytes.specs.Escapes.{is_plain}
 use Rattle.gob_bytes.specs.Paths.{begins_with, under, staging, sequence_name}
-use Rattle.gob_bytes.specs.Words.{words, numbered}
+use Rattle.gob_bytes.specs.Words.{words, numbered_line}
 
 -- a staged file gets its lasting name, or a name is taken away
 pub data CommitStep : Type 0 where
@@ -12,13 +12,13 @@ pub data CommitStep : Type 0 where
   remove : (name : List ℕ) → CommitStep
 
 -- a byte that a name in a sequence may have: a plain one, '/', '@' or '%'
-abbrev pub is_name_byte : ℕ → Bool
-is_name_byte b = is_plain b || nat_eq b 47 || nat_eq b 64 || nat_eq b 37
+abbrev pub is_sequence_byte : ℕ → Bool
+is_sequence_byte b = is_plain b || nat_eq b 47 || nat_eq b 64 || nat_eq b 37
 
 -- a name that a sequence can spell
 abbrev pub is_file_name : List ℕ → Bool
 is_file_name [] = false
-is_file_name (b ∷ bs) = list_all is_name_byte (b ∷ bs)
+is_file_name (b ∷ bs) = list_all is_sequence_byte (b ∷ bs)
 
 -- a staged file, but not the staged sequence
 abbrev pub is_staged : List ℕ → List ℕ → Bool
@@ -51,7 +51,7 @@ step_line (remove name) = words (codes "remove") (name ∷ [])
 -- the file of an open sequence
 unfoldable pub sequence_text : List CommitStep → List ℕ
 sequence_text steps = words (codes "gobblin-sequence") (codes "1" ∷ []) ++ flat_map step_line steps
-    ++ numbered (codes "end") (length steps ∷ [])
+    ++ numbered_line (codes "end") (length steps ∷ [])
 
 -- these bytes read as these steps
 pub record Reads (job bytes : List ℕ) (steps : List CommitStep) : Type 0 where

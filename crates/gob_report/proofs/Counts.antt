@@ -11,7 +11,7 @@ use Rattle.gob_ledger.specs.State.{State}
 use Rattle.gob_state.proofs.SettingLemmas.{at_drop}
 use Rattle.gob_state.proofs.WriteLemmas.{dropped_all}
 use Rattle.gob_texts.specs.Commands.{pipeline_line}
-use Rattle.gob_report.specs.Counted.{counted_from, made_by, made_in, range_line}
+use Rattle.gob_report.specs.Counted.{counted_from, ranges_made_by, made_in, range_line}
 
 -- what is to be added is told by its values
 pub counted_same : (s : ℕ) (ns : List ℕ) (f g : ℕ → ℕ) → ((k : ℕ) → f k ≡ g k)
@@ -93,9 +93,9 @@ none_counted s (n ∷ ns) i past = (λ j. (same j) ∷ none_counted (s + 1) ns i
 
 -- all ranges are counted
 pub done_all : (old a : List ℕ) (ds : List Done) (i : ℕ) → length ds ≤ i
-    → counted_from 0 a (made_by (drop i ds)) ≡ counted_from 0 old (made_by ds) → a ≡ counted_from 0 old (made_by ds)
+    → counted_from 0 a (ranges_made_by (drop i ds)) ≡ counted_from 0 old (ranges_made_by ds) → a ≡ counted_from 0 old (ranges_made_by ds)
 done_all old a ds i past inv =
-    sym (counted_none 0 a) ∙ ap (λ xs. counted_from 0 a (made_by xs)) (sym (dropped_all ds i past)) ∙ inv
+    sym (counted_none 0 a) ∙ ap (λ xs. counted_from 0 a (ranges_made_by xs)) (sym (dropped_all ds i past)) ∙ inv
 
 -- all partitions are counted
 pub parts_all : (old a : List ℕ) (parts : Table Marks) (i : ℕ) → length parts ≤ i
@@ -106,33 +106,33 @@ parts_all old a parts i past inv =
 
 -- one range more is counted
 pub done_counted : (old a b : List ℕ) (ds : List Done) (i : ℕ) (d : Done) → i < length ds → d ≡ get_or ds i d
-    → counted_from 0 a (made_by (drop i ds)) ≡ counted_from 0 old (made_by ds)
+    → counted_from 0 a (ranges_made_by (drop i ds)) ≡ counted_from 0 old (ranges_made_by ds)
     → b ≡ counted_from 0 a (λ k. if nat_eq d.pipeline k then 1 else 0)
-    → counted_from 0 b (made_by (drop (i + 1) ds)) ≡ counted_from 0 old (made_by ds)
+    → counted_from 0 b (ranges_made_by (drop (i + 1) ds)) ≡ counted_from 0 old (ranges_made_by ds)
 done_counted old a b ds i d below is inv one =
-    let later = made_by (drop (i + 1) ds) in
+    let later = ranges_made_by (drop (i + 1) ds) in
     ap (λ ns. counted_from 0 ns later) one
     ∙ counted_twice 0 a (λ k. if nat_eq d.pipeline k then 1 else 0) later
-    ∙ counted_same 0 a _ (made_by (d ∷ drop (i + 1) ds)) (λ k. sym (first k))
-    ∙ ap (λ xs. counted_from 0 a (made_by xs)) (sym (at_drop ds i d below is)) ∙ inv
+    ∙ counted_same 0 a _ (ranges_made_by (d ∷ drop (i + 1) ds)) (λ k. sym (first k))
+    ∙ ap (λ xs. counted_from 0 a (ranges_made_by xs)) (sym (at_drop ds i d below is)) ∙ inv
   where
-    first : (k : ℕ) → made_by (d ∷ drop (i + 1) ds) k ≡ (if nat_eq d.pipeline k then 1 else 0) + made_by
+    first : (k : ℕ) → ranges_made_by (d ∷ drop (i + 1) ds) k ≡ (if nat_eq d.pipeline k then 1 else 0) + ranges_made_by
         (drop (i + 1) ds) k
     first k = sum_by-cons (λ (e : Done). if nat_eq e.pipeline k then 1 else 0) d (drop (i + 1) ds)
 
 -- one partition more
 pub part_counted : (old a b : List ℕ) (parts : Table Marks) (i : ℕ) (e : List ℕ × Marks) → i < length parts
     → e ≡ get_or parts i e → counted_from 0 a (made_in (drop i parts)) ≡ counted_from 0 old (made_in parts)
-    → b ≡ counted_from 0 a (made_by e.1.finished)
+    → b ≡ counted_from 0 a (ranges_made_by e.1.finished)
     → counted_from 0 b (made_in (drop (i + 1) parts)) ≡ counted_from 0 old (made_in parts)
 part_counted old a b parts i e below is inv one =
     let later = made_in (drop (i + 1) parts) in
-    ap (λ ns. counted_from 0 ns later) one ∙ counted_twice 0 a (made_by e.1.finished) later
+    ap (λ ns. counted_from 0 ns later) one ∙ counted_twice 0 a (ranges_made_by e.1.finished) later
     ∙ counted_same 0 a _ (made_in (e ∷ drop (i + 1) parts)) (λ k. sym (first k))
     ∙ ap (λ xs. counted_from 0 a (made_in xs)) (sym (at_drop parts i e below is)) ∙ inv
   where
-    first : (k : ℕ) → made_in (e ∷ drop (i + 1) parts) k ≡ made_by e.1.finished k + made_in (drop (i + 1) parts) k
-    first k = sum_by-cons (λ (x : List ℕ × Marks). made_by x.1.finished k) e (drop (i + 1) parts)
+    first : (k : ℕ) → made_in (e ∷ drop (i + 1) parts) k ≡ ranges_made_by e.1.finished k + made_in (drop (i + 1) parts) k
+    first k = sum_by-cons (λ (x : List ℕ × Marks). ranges_made_by x.1.finished k) e (drop (i + 1) parts)
 
 -- ---- lines
 

@@ -10,35 +10,35 @@ use Rattle.gob_state.specs.Committed.{judged_by, verdict_in}
 use Rattle.gob_state.proofs.SettingLemmas.{at_drop}
 use Rattle.gob_texts.specs.Report.{unit_lines, units_lines}
 use Rattle.gob_report.specs.declared.lines.Word.{Word}
-use Rattle.gob_report.specs.Lines.{spaced, word_text}
+use Rattle.gob_report.specs.Lines.{spaced_words, word_text}
 
 -- ---- lines
 
-line_of : (first : List ℕ) (ws : List Word) → words first (map word_text ws) ≡ first ++ (spaced ws ++ 10 ∷ [])
+line_of : (first : List ℕ) (ws : List Word) → words first (map word_text ws) ≡ first ++ (spaced_words ws ++ 10 ∷ [])
 line_of first [] = refl
 line_of first (w ∷ ws) = ap (λ t. first ++ 32 ∷ t) (line_of (word_text w) ws)
-    ∙ ap (λ t. first ++ 32 ∷ t) (sym (append_assoc (word_text w) (spaced ws) (10 ∷ [])))
+    ∙ ap (λ t. first ++ 32 ∷ t) (sym (append_assoc (word_text w) (spaced_words ws) (10 ∷ [])))
 
 long_line_of : (first : List ℕ) (vs ws : List Word)
-    → words first (map word_text vs ++ map word_text ws) ≡ first ++ (spaced vs ++ (spaced ws ++ 10 ∷ []))
+    → words first (map word_text vs ++ map word_text ws) ≡ first ++ (spaced_words vs ++ (spaced_words ws ++ 10 ∷ []))
 long_line_of first [] ws = line_of first ws
 long_line_of first (v ∷ vs) ws = ap (λ t. first ++ 32 ∷ t) (long_line_of (word_text v) vs ws)
-    ∙ ap (λ t. first ++ 32 ∷ t) (sym (append_assoc (word_text v) (spaced vs) (spaced ws ++ 10 ∷ [])))
+    ∙ ap (λ t. first ++ 32 ∷ t) (sym (append_assoc (word_text v) (spaced_words vs) (spaced_words ws ++ 10 ∷ [])))
 
-pub line_pushed : (old a b new first : List ℕ) (ws : List Word) → a ≡ old ++ first → b ≡ a ++ spaced ws
+pub line_pushed : (old a b new first : List ℕ) (ws : List Word) → a ≡ old ++ first → b ≡ a ++ spaced_words ws
     → new ≡ b ++ 10 ∷ [] → new ≡ old ++ words first (map word_text ws)
 line_pushed old a b new first ws pa pb pc =
-    pc ∙ ap (λ t. t ++ 10 ∷ []) (pb ∙ ap (λ t. t ++ spaced ws) pa) ∙ regrouped old first (spaced ws) (10 ∷ [])
+    pc ∙ ap (λ t. t ++ 10 ∷ []) (pb ∙ ap (λ t. t ++ spaced_words ws) pa) ∙ regrouped old first (spaced_words ws) (10 ∷ [])
     ∙ ap (λ t. old ++ t) (sym (line_of first ws))
   where
     regrouped : (o f w n : List ℕ) → ((o ++ f) ++ w) ++ n ≡ o ++ (f ++ (w ++ n))
     regrouped o f w n = simp append_assoc
 
-pub long_line_pushed : (old a b c new first : List ℕ) (vs ws : List Word) → a ≡ old ++ first → b ≡ a ++ spaced vs
-    → c ≡ b ++ spaced ws → new ≡ c ++ 10 ∷ [] → new ≡ old ++ words first (map word_text vs ++ map word_text ws)
+pub long_line_pushed : (old a b c new first : List ℕ) (vs ws : List Word) → a ≡ old ++ first → b ≡ a ++ spaced_words vs
+    → c ≡ b ++ spaced_words ws → new ≡ c ++ 10 ∷ [] → new ≡ old ++ words first (map word_text vs ++ map word_text ws)
 long_line_pushed old a b c new first vs ws pa pb pc pd =
-    pd ∙ ap (λ t. t ++ 10 ∷ []) (pc ∙ ap (λ t. t ++ spaced ws) (pb ∙ ap (λ t. t ++ spaced vs) pa))
-    ∙ regrouped old first (spaced vs) (spaced ws) (10 ∷ []) ∙ ap (λ t. old ++ t) (sym (long_line_of first vs ws))
+    pd ∙ ap (λ t. t ++ 10 ∷ []) (pc ∙ ap (λ t. t ++ spaced_words ws) (pb ∙ ap (λ t. t ++ spaced_words vs) pa))
+    ∙ regrouped old first (spaced_words vs) (spaced_words ws) (10 ∷ []) ∙ ap (λ t. old ++ t) (sym (long_line_of first vs ws))
   where
     regrouped : (o f v w n : List ℕ) → (((o ++ f) ++ v) ++ w) ++ n ≡ o ++ (f ++ (v ++ (w ++ n)))
     regrouped o f v w n = simp append_assoc

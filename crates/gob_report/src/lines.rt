@@ -1,7 +1,7 @@
 //! Lines of words, parted by one space.
 ghost use Rattle.std.specs.Prelude.{◌≡◌, ◌++◌, ◌∷◌, map, OnOk};
 ghost use Rattle.gob_bytes.specs.Words.{words};
-ghost use Rattle.gob_report.specs.Lines.{spaced, word_text};
+ghost use Rattle.gob_report.specs.Lines.{spaced_words, word_text};
 
 use gob_text::{push_escaped, push_u64};
 use std::alloc::AllocError;
@@ -31,7 +31,7 @@ fn push_word(into: &mut Vec<u8>, word: Word<'_>) -> Result<(), AllocError>
 
 /// Adds words, each with a space before it.
 pub(crate) fn push_words(into: &mut Vec<u8>, words: &[Word<'_>]) -> Result<(), AllocError>
-    ensures { OnOk result (into.new.items ≡ into.old.items ++ spaced words.now) }
+    ensures { OnOk result (into.new.items ≡ into.old.items ++ spaced_words words.now) }
 {
     for word in words {
         push_word(into, *word)?;

@@ -1,7 +1,7 @@
 //! The partitions of a state: how far each is done, and what of it is owed.
 ghost use Rattle.std.specs.Prelude.{◌≡◌, ◌++◌, OnOk};
 ghost use Rattle.std.specs.List.{flat_map};
-ghost use Rattle.gob_texts.specs.Commands.{open_line, part_lines};
+ghost use Rattle.gob_texts.specs.Commands.{open_range_line, part_lines};
 ghost use Rattle.gob_texts.specs.Report.{mark_line, watermark_of};
 
 use crate::lines::Word::{Name, Number};
@@ -42,7 +42,7 @@ pub(crate) fn push_marks(into: &mut Vec<u8>, table: &MarkTable) -> Result<(), Al
 }
 
 fn push_open(into: &mut Vec<u8>, part: &str, open: &[Range]) -> Result<(), AllocError>
-    ensures { OnOk result (into.new.items ≡ into.old.items ++ flat_map (open_line part.now) open.now) }
+    ensures { OnOk result (into.new.items ≡ into.old.items ++ flat_map (open_range_line part.now) open.now) }
 {
     for i in 0..open.len() {
         let range = open[i];

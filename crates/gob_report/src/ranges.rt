@@ -2,7 +2,7 @@
 ghost use Rattle.std.specs.Prelude.{◌≡◌, ◌++◌, if◌then◌else◌, nat_eq, length, map, IfOk, OnOk};
 ghost use Rattle.std.specs.List.{enumerate_from, flat_map, range_with_len};
 ghost use Rattle.gob_texts.specs.Commands.{pipeline_line};
-ghost use Rattle.gob_report.specs.Counted.{counted_from, made_by, made_in, range_lines};
+ghost use Rattle.gob_report.specs.Counted.{counted_from, ranges_made_by, made_in, range_count_lines};
 
 use crate::lines::Word::{Number, Plain};
 use crate::lines::push_line;
@@ -27,7 +27,7 @@ fn count_one(counts: &mut [u64], index: u64) -> Result<(), NoMemory>
 
 // Counts each range at its pipeline.
 fn count_done(counts: &mut [u64], done: &[Done]) -> Result<(), NoMemory>
-    ensures { OnOk result (counts.new ≡ counted_from 0 counts.old (made_by done.now)) }
+    ensures { OnOk result (counts.new ≡ counted_from 0 counts.old (ranges_made_by done.now)) }
 {
     for i in 0..done.len() {
         let one = done[i];
@@ -49,7 +49,7 @@ fn count_parts(counts: &mut [u64], table: &MarkTable) -> Result<(), NoMemory>
 }
 
 fn push_counted(into: &mut Vec<u8>, counts: &[u64]) -> Result<(), AllocError>
-    ensures { OnOk result (into.new.items ≡ into.old.items ++ range_lines counts.now) }
+    ensures { OnOk result (into.new.items ≡ into.old.items ++ range_count_lines counts.now) }
 {
     for i in 0..counts.len() {
         push_line(

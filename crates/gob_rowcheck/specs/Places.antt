@@ -33,8 +33,8 @@ abbrev pub columns_judged : List PolicySpec → List (List ℕ)
 columns_judged policies = map (λ p. p.test.column) policies
 
 -- a check by no pattern
-abbrev pub is_plain : Check → Bool
-is_plain check.Null = true
-is_plain (check.Compare h w) = true
-is_plain (check.Like pattern) = false
-is_plain (check.Bytes low high) = true
+abbrev pub is_plain_check : Check → Bool
+is_plain_check check.Null = true
+is_plain_check (check.Compare h w) = true
+is_plain_check (check.Like pattern) = false
+is_plain_check (check.Bytes low high) = true

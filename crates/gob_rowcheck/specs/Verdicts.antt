@@ -6,15 +6,15 @@ use Rattle.gob_rowcheck.specs.declared.verdict.RowEnd.TheVariants.{Pass, ToError
 use Rattle.gob_rowcheck.specs.declared.verdict.RowVerdict.{RowVerdict}
 
 -- what becomes of the row
-abbrev pub end_of : RowEnd → Ruling
-end_of Pass = pass
-end_of (ToError k) = to_error k
-end_of (Kill k) = kill k
+abbrev pub end_ruling : RowEnd → Ruling
+end_ruling Pass = pass
+end_ruling (ToError k) = to_error k
+end_ruling (Kill k) = kill k
 
 -- that, with the number of optional policies that failed
 abbrev pub ruling_of : RowVerdict → Ruling × ℕ
-ruling_of v = (end_of v.end, v.optional)
+ruling_of v = (end_ruling v.end, v.optional)
 
 -- a ruling of later policies, where so many optional ones failed before them
-abbrev pub counted : ℕ → Ruling × ℕ → Ruling × ℕ
-counted n later = (later.0, later.1 + n)
+abbrev pub counted_ruling : ℕ → Ruling × ℕ → Ruling × ℕ
+counted_ruling n later = (later.0, later.1 + n)

@@ -3,7 +3,7 @@
 ghost use Rattle.std.specs.Prelude.{◌≡◌, true};
 ghost use Rattle.gob_plan.specs.Rows.{conforms};
 ghost use Rattle.gob_plan.specs.Tests.{check_holds, compares, order_is, test_fits, test_holds, value_order};
-ghost use Rattle.gob_rowcheck.specs.Places.{is_plain, stands_at};
+ghost use Rattle.gob_rowcheck.specs.Places.{is_plain_check, stands_at};
 
 use gob_plan::{Check, Columns, How, Row, TestSpec, Value, holds};
 use std::cmp::Ordering;
@@ -36,7 +36,7 @@ pub fn place_of(test: &TestSpec, columns: &Columns) -> usize
 
 // A check by a pattern isn't made here.
 fn is_met(check: &Check, value: &Value) -> bool
-    requires { is_plain check.now ≡ true }
+    requires { is_plain_check check.now ≡ true }
     ensures { result ≡ check_holds check.now value.now }
 {
     match (check, value) {

@@ -26,9 +26,9 @@ use Rattle.gob_turns.specs.Taken.{FailuresRose, HasPulled, given_up_in}
 use Rattle.gob_run.specs.Answers.{Answer, FaultCaused, RunAnswered, RunIsDone}
 use Rattle.gob_run.specs.Answers.{ToldFirst}
 use Rattle.gob_run.specs.Cutting.{CutFits, parts_of}
-use Rattle.gob_run.specs.Entry.{Entry, IsBroken, OnlySettled, Refused, broken, full, shrunk}
+use Rattle.gob_run.specs.Entry.{SettledEntry, IsBroken, OnlySettled, Refused, broken, full, shrunk}
 use Rattle.gob_run.specs.Working.{WorkIsDone, WorkStops, Worked}
-use Rattle.gob_run.specs.World.{GoesOn, World}
+use Rattle.gob_run.specs.World.{WorldGoesOn, World}
 use Rattle.gob_run.specs.declared.fault.RunFault.{RunFault}
 use Rattle.gob_run.specs.declared.fault.RunFault.TheVariants.{Damaged, Shrunk, Full, SourceFault, VolumeFault, Memory}
 use Rattle.gob_run.proofs.Began.{Began, began_of, entry_of, found_is_one, not_broken, only_settled, parts_same}
@@ -47,7 +47,7 @@ where_some (Some x) P each = each x refl
 pub rose_by_after : (n before between now : ℕ) → before ≤ between → RoseBy n between now → RoseBy n before now
 rose_by_after n before between now later rose = omega (arith, later, rose)
 
-pub goes_then : (a b c : World) → GoesOn a b → GoesOn b c → GoesOn a c
+pub goes_then : (a b c : World) → WorldGoesOn a b → WorldGoesOn b c → WorldGoesOn a c
 goes_then a b c f g = record {
   source = omega (arith, f.source, g.source);
   planned = omega (arith, f.planned, g.planned);
@@ -71,7 +71,7 @@ is_done : (job : Job) (failing : List ℕ) (l : Loaded) (cut : Cut) (out : Outco
     → (cut.units ≡ [] → new.disk ≡ mid.disk) → RunIsDone job failing out old new
 is_done job failing l cut out old mid new u w still = record {
   found = l.state;
-  entry = where_some old.disk (λ d. Entry job.name d.files l.state)
+  entry = where_some old.disk (λ d. SettledEntry job.name d.files l.state)
       (λ d is. let b = begun job l cut old mid d u is in entry_of job.name l d b.0 b.2);
   fits = w.fits;
   told = λ s is.
@@ -137,7 +137,7 @@ no_refusal job l cut supply d c s Memory fits told b is = elim is [ ]
 
 -- ---- the answer
 
-caused : (job : Job) (f : RunFault) (old mid new : World) → GoesOn old mid → WorkStops mid new f
+caused : (job : Job) (f : RunFault) (old mid new : World) → WorldGoesOn old mid → WorkStops mid new f
     → FaultCaused job old new f
 caused job (Damaged name) old mid new on stops = absurd stops
 caused job (Shrunk part next size) old mid new on stops = absurd stops
@@ -147,7 +147,7 @@ caused job VolumeFault old mid new on stops =
     rose_after old.volume_faults mid.volume_faults new.volume_faults on.volume stops
 caused job Memory old mid new on stops = tt
 
-caused_where : (job : Job) (a : Answer) (old mid new : World) → GoesOn old mid → IfErr a (WorkStops mid new)
+caused_where : (job : Job) (a : Answer) (old mid new : World) → WorldGoesOn old mid → IfErr a (WorkStops mid new)
     → IfErr a (FaultCaused job old new)
 caused_where job (Ok out) old mid new on stops = tt
 caused_where job (Err f) old mid new on stops = caused job f old mid new on stops
@@ -159,7 +159,7 @@ done_where job failing l cut (Ok out) old mid new u w still = is_done job failin
 done_where job failing l cut (Err f) old mid new u w still = tt
 
 -- only a volume that failed, or want of memory, stops the work
-ends : (a : Answer) (old mid new : World) → GoesOn old mid → IfErr a (WorkStops mid new)
+ends : (a : Answer) (old mid new : World) → WorldGoesOn old mid → IfErr a (WorkStops mid new)
     → (Rose old.volume_faults new.volume_faults → ⊥) → ((out : Outcome) × (a ≡ Ok out)) ⊎ (a ≡ Err Memory)
 ends (Ok out) old mid new on stops still = inl (out, refl)
 ends (Err (Damaged name)) old mid new on stops still = absurd stops

@@ -20,7 +20,7 @@ use Rattle.gob_segments.specs.Loading.{IsKept, IsLoaded}
 use Rattle.gob_segments.specs.declared.change.Loaded.{Loaded}
 use Rattle.gob_seq.specs.Maps.{ImagesSettleTheSame, OnlyUnstages, SettlesByName}
 use Rattle.gob_run.specs.Cutting.{parts_of}
-use Rattle.gob_run.specs.Entry.{Entry, IsBroken, OnlySettled, SettleAlike, SettledTo, sequence, state}
+use Rattle.gob_run.specs.Entry.{SettledEntry, IsBroken, OnlySettled, SettleAlike, SettledTo, sequence, state}
 use Rattle.gob_run.specs.Faults.{Finds}
 use Rattle.gob_run.proofs.Settled.{OnlySettle, settle_alike}
 use Rattle.gob_run.proofs.Wents.{adds_both, went_of}
@@ -63,7 +63,7 @@ began_of job l old mid d found only is =
 
 -- ---- what is found
 
-unfoldable pub entry_of : (job : List ℕ) (l : Loaded) (d c : Disk) → Began job l d c → Entry job d.files l.state
+unfoldable pub entry_of : (job : List ℕ) (l : Loaded) (d c : Disk) → Began job l d c → SettledEntry job d.files l.state
 entry_of job l d c b = record {
   settled = c.files;
   settles = b.settles;
@@ -87,7 +87,7 @@ settled_to job l d c b = record { only = only_settled job l d c b; settles = b.s
 
 -- no other state is found
 pub found_is_one : (job : List ℕ) (l : Loaded) (d c : Disk) (o : Option State) → Began job l d c
-    → Entry job d.files o → o ≡ l.state
+    → SettledEntry job d.files o → o ≡ l.state
 found_is_one job l d c o b e =
     let same = to_one job d.files c.files e.settled b.settles e.settles in
     let kept = keeps_one job e.settled b.kept e.kept (subst (λ n. KeepsAs job n b.kept) same b.keeps) e.keeps in

@@ -20,8 +20,8 @@ use Rattle.gob_task.specs.Turn.{TurnRulesValue}
 use Rattle.gob_turns.specs.Asked.{AreHeld, IsWorkedBy, MayHaveTurns}
 use Rattle.gob_turns.specs.Taken.{AllGiven, AreCommittable, AreFirstPulls, AreResults, FailuresRose, HasPulled}
 use Rattle.gob_turns.specs.Taken.{given_up_in}
-use Rattle.gob_commit.specs.Going.{CommitsAre, GoesAlong, GoesToEnd}
-use Rattle.gob_commit.specs.Staged.{AreThere, CanCommit, HasRules, all_pairs}
+use Rattle.gob_commit.specs.Going.{CommitsAre, CommitsAlong, GoesToEnd}
+use Rattle.gob_commit.specs.Staged.{AreReadyToMove, CanCommit, HasRules, all_pairs}
 use Rattle.gob_commit.specs.declared.rules.CommitRules.{CommitRules}
 use Rattle.gob_commit.specs.declared.rules.Committed.{Committed}
 use Rattle.gob_run.specs.Answers.{Answer}
@@ -145,20 +145,20 @@ pub commits_there : (job : Job) (cut : Cut) (results : List UnitResult) (rules :
     → AreTheirs job cut of_turns listed → AreCommitted job cut results rules units made
     → IfSome old (λ d. d.files (sequence_name job.name) ≡ None) → Along (OnlyBelow (staging of_turns.job)) old now
     → AreCommittable of_turns.job listed results now
-    → IfSome now (λ d. AreThere rules.job.now (all_pairs made) d.files)
+    → IfSome now (λ d. AreReadyToMove rules.job.now (all_pairs made) d.files)
 commits_there job cut results rules units made of_turns listed old now theirs these closed along can =
     let there = are_there job.name results old now closed
     (subst (λ (r : TurnRulesValue). Along (OnlyBelow (staging r.job)) old now) theirs.rules_are along) can.there in
-    subst₂ (λ (name : List ℕ) (rs : List UnitResult). IfSome now (λ d. AreThere name (all_pairs rs) d.files))
+    subst₂ (λ (name : List ℕ) (rs : List UnitResult). IfSome now (λ d. AreReadyToMove name (all_pairs rs) d.files))
     these.has.name (sym these.made_are) there
 
 pub commits_say : (job : Job) (l : Loaded) (cut : Cut) (results : List UnitResult) (rules : CommitRules)
     (units : List WorkUnit) (made : List UnitResult) (old : World) (disk : Option Disk) (faults : ℕ)
-    → AreCommitted job cut results rules units made → AddsMaps (GoesAlong rules l units made) old.disk disk
+    → AreCommitted job cut results rules units made → AddsMaps (CommitsAlong rules l units made) old.disk disk
     → Along (OnlyBelow (under rules.job.now [])) old.disk disk → old.volume_faults ≤ faults
     → CommitsSay job rules l cut.units results old disk faults
 commits_say job l cut results rules units made old disk faults these along below goes = record {
-  along = subst₂ (λ us rs. AddsMaps (GoesAlong rules l us rs) old.disk disk) these.units_are these.made_are along;
+  along = subst₂ (λ us rs. AddsMaps (CommitsAlong rules l us rs) old.disk disk) these.units_are these.made_are along;
   below = subst (λ (name : List ℕ). Along (OnlyBelow (under name [])) old.disk disk) (sym these.has.name) below;
   goes_on = goes;
 }

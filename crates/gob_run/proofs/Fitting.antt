@@ -7,7 +7,7 @@ use Rattle.std.proofs.lemmas.Bool.{and_parts, leb-true}
 use Rattle.std.proofs.lemmas.List.{length-map}
 use Rattle.std.proofs.lemmas.List.Filters.{length-filter_both}
 use Rattle.std.proofs.lemmas.List.Sums.{length-filter, sum_by-cons}
-use Rattle.gob_bytes.specs.Escapes.{escaped}
+use Rattle.gob_bytes.specs.Escapes.{escape_of}
 use Rattle.gob_bytes.specs.Paths.{sequence_name, staging}
 use Rattle.gob_bytes.specs.Tables.{Table}
 use Rattle.gob_device.specs.Disk.{Along, Disk}
@@ -42,7 +42,7 @@ use Rattle.gob_turns.specs.Asked.{AreHeld, IsWorkedBy, MayHaveTurns}
 use Rattle.gob_turns.specs.Taken as turns
 use Rattle.gob_turns.specs.Taken.{AreCommittable}
 use Rattle.gob_commit.specs.Staged as commits
-use Rattle.gob_commit.specs.Staged.{AreThere, CanCommit, HasRules, NamesFit, Pair, state_or}
+use Rattle.gob_commit.specs.Staged.{AreReadyToMove, CanCommit, HasRules, NamesFit, Pair, state_or}
 use Rattle.gob_commit.specs.declared.rules.CommitRules.{CommitRules}
 use Rattle.gob_run.specs.Cutting.{CutFits, CutIsTold, parts_of}
 use Rattle.gob_run.specs.Entry.{most_ranges}
@@ -139,7 +139,7 @@ lines_enough (s ∷ ss) =
     let later = lines_enough ss in
     let both : length (flat_map setting_line (s ∷ ss)) ≡ length (setting_line s) + length (flat_map setting_line ss) =
     length-append (setting_line s) (flat_map setting_line ss) in
-    let line : 1 ≤ length (setting_line s) = longer (s.0 ++ 61 ∷ escaped s.1) 10 [] in
+    let line : 1 ≤ length (setting_line s) = longer (s.0 ++ 61 ∷ escape_of s.1) 10 [] in
     omega (arith, later, both, line)
 
 -- a pipeline text whose length fits can be kept
@@ -149,11 +149,11 @@ kept_pipeline text small told =
     (told.0, told.1, told.2, omega (arith, small, enough, ap length told.2))
 
 -- the pairs of a unit are told in two ways
-pub one_pairs : (r : UnitResult) → turns.pairs_in r ≡ commits.pairs_in r
+pub one_pairs : (r : UnitResult) → turns.moves_in r ≡ commits.pairs_in r
 one_pairs (unit_result.Good counts warnings staged) = refl
 one_pairs (unit_result.Failed cause) = refl
 
-pub same_pairs : (results : List UnitResult) → turns.all_pairs results ≡ commits.all_pairs results
+pub same_pairs : (results : List UnitResult) → turns.all_moves results ≡ commits.all_pairs results
 same_pairs [] = refl
 same_pairs (r ∷ rs) = ap₂ (λ (xs ys : List Pair). xs ++ ys) (one_pairs r) (same_pairs rs)
 
@@ -190,12 +190,12 @@ can_commit job rules l old cut results disk has kept right named loaded fits can
 -- behind the turns no sequence is open, and what is to be moved is there
 pub are_there : (job : List ℕ) (results : List UnitResult) (old now : Option Disk)
     → IfSome old (λ d. d.files (sequence_name job) ≡ None) → Along (OnlyBelow (staging job)) old now
-    → IfSome now (λ d. (p : Pair) → Contains (turns.all_pairs results) p → IsSome (d.files p.0))
-    → IfSome now (λ d. AreThere job (commits.all_pairs results) d.files)
+    → IfSome now (λ d. (p : Pair) → Contains (turns.all_moves results) p → IsSome (d.files p.0))
+    → IfSome now (λ d. AreReadyToMove job (commits.all_pairs results) d.files)
 are_there job results None None closed along there = tt
 are_there job results None (Some e) closed along there = absurd along.told
 are_there job results (Some d) None closed along there = tt
 are_there job results (Some d) (Some e) closed along there =
     let below = along_last (OnlyBelow (staging job)) (below_same (staging job)) d e along in
-    subst (λ (ps : List Pair). AreThere job ps e.files) (same_pairs results)
+    subst (λ (ps : List Pair). AreReadyToMove job ps e.files) (same_pairs results)
     (record { closed = below (sequence_name job) (not_staged job) ∙ closed; there = there })

@@ -9,7 +9,7 @@ use Rattle.gob_plan.specs.declared.units.Unit.{Unit as WorkUnit}
 use Rattle.gob_plan.specs.declared.units.UnitResult.{UnitResult}
 use Rattle.gob_meaning.specs.Job.{Job}
 use Rattle.gob_meaning.specs.Results.{verdict_of}
-use Rattle.gob_ledger.specs.Expected.{bytes_in}
+use Rattle.gob_ledger.specs.Expected.{bytes_of_range}
 use Rattle.gob_ledger.specs.Marks.{Marks}
 use Rattle.gob_ledger.specs.Next.{is_good}
 use Rattle.gob_ledger.specs.Spelling.{Proper}
@@ -17,16 +17,16 @@ use Rattle.gob_ledger.specs.State.{State}
 use Rattle.gob_ledger.specs.Units.{UnitsFit, span_of}
 use Rattle.gob_history.specs.Laws.{StagedFor}
 use Rattle.gob_state.specs.Committed.{verdict_in}
-use Rattle.gob_turns.specs.Taken.{AllGiven, IsGiven, pairs_in}
+use Rattle.gob_turns.specs.Taken.{AllGiven, IsGiven, moves_in}
 use Rattle.gob_run.specs.Cutting.{parts_of}
 use Rattle.gob_run.proofs.Apart.{AreTiled, fit_apart}
 use Rattle.gob_run.proofs.Holding.{held_of, holds}
 
 -- the bytes that the table holds of a good unit are as many as its range has, and its verdict and its files are theirs
 pub record IsGivenIn (job : Job) (held : Held) (u : WorkUnit) (r : UnitResult) (disk : Option Disk) : Type 0 where
-  pub whole : length (bytes_in held u.part (span_of u)) ≡ u.hi - u.lo
-  pub verdict : verdict_in r ≡ verdict_of job.plan u (bytes_in held u.part (span_of u))
-  pub staged : IfSome disk (λ d. StagedFor job held ((u, verdict_in r) ∷ []) d.files (pairs_in r))
+  pub whole : length (bytes_of_range held u.part (span_of u)) ≡ u.hi - u.lo
+  pub verdict : verdict_in r ≡ verdict_of job.plan u (bytes_of_range held u.part (span_of u))
+  pub staged : IfSome disk (λ d. StagedFor job held ((u, verdict_in r) ∷ []) d.files (moves_in r))
 
 -- so it is of each good unit
 abbrev pub AllGivenIn : Job → Held → List WorkUnit → List UnitResult → Option Disk → Type 0
@@ -71,7 +71,7 @@ given_at job units results disk all i = at_both (slice_get units i) (slice_get r
     at_both (Some v) (Some s) e f = where_good v s e f (is_good (verdict_in s)) refl
 
 in_held : (job : Job) (held : Held) (u : WorkUnit) (r : UnitResult) (disk : Option Disk) (g : IsGiven job u r disk)
-    → bytes_in held u.part (span_of u) ≡ g.bytes → IsGivenIn job held u r disk
+    → bytes_of_range held u.part (span_of u) ≡ g.bytes → IsGivenIn job held u r disk
 in_held job held u r disk g same = record {
   whole = ap length same ∙ g.whole;
   verdict = g.verdict ∙ ap (verdict_of job.plan u) (sym same);

@@ -34,10 +34,10 @@ use Rattle.gob_turns.proofs.Pulled.{pulled_nothing}
 use Rattle.gob_run.specs.Answers.{Answer, Completes, Due, FaultCaused, NoPull, PublishesGiven, PublishesOnly, PullsAre}
 use Rattle.gob_run.specs.Answers.{PullsAreOf, RunAnswered, StaysIdle, ToldFirst, TrailIs, groups_by}
 use Rattle.gob_run.specs.Cutting.{CutNot, NoRoom, ShrunkAt, parts_of}
-use Rattle.gob_run.specs.Entry.{Entry, IsBroken, IsFull, IsShrunk, LeftBroken, Refused, SettledTo}
+use Rattle.gob_run.specs.Entry.{SettledEntry, IsBroken, IsFull, IsFirstShrunk, LeftBroken, Refused, SettledTo}
 use Rattle.gob_run.specs.Entry.{broken, full, sequence, shrunk, state}
 use Rattle.gob_run.specs.Faults.{BeginsNot, Finds}
-use Rattle.gob_run.specs.World.{GoesOn, WhereFiled, WhereSupplied, WhereTold, World}
+use Rattle.gob_run.specs.World.{WorldGoesOn, WhereFiled, WhereSupplied, WhereTold, World}
 use Rattle.gob_run.specs.declared.fault.RunFault.{RunFault}
 use Rattle.gob_run.specs.declared.fault.RunFault.TheVariants.{Damaged, Shrunk, Full, SourceFault, VolumeFault, Memory}
 use Rattle.gob_run.proofs.Counting.{new_count_told}
@@ -75,7 +75,7 @@ pub record StopsEarly (job : Job) (old new : World) : Type 0 where
   pub staged : Along (OnlyUnstages job.name) old.disk new.disk
   pub below : Along (OnlyBelow (under job.name [])) old.disk new.disk
   pub unpulled : NoPull old new
-  pub goes_on : GoesOn old new
+  pub goes_on : WorldGoesOn old new
 
 -- the maps that it added, each of which settles as the first one does
 early_maps : (job : Job) (old new : World) (d : Disk) → StopsEarly job old new → old.disk ≡ Some d
@@ -217,7 +217,7 @@ left_broken job blamed d e (sequence damaged same) = sequence blamed damaged
 left_broken job blamed d e (state settled damaged) = state e.files blamed settled.settles damaged
 
 -- and no state is found
-no_entry : (job blamed : List ℕ) (d e : Disk) (o : Option State) → LeftBroken job blamed d e → Entry job d.files o → ⊥
+no_entry : (job blamed : List ℕ) (d e : Disk) (o : Option State) → LeftBroken job blamed d e → SettledEntry job d.files o → ⊥
 no_entry job blamed d e o (sequence damaged same) found =
     (one_damage job d.files blamed damaged).unsettled found.settled found.settles
 no_entry job blamed d e o (state settled damaged) found =
@@ -293,7 +293,7 @@ parts_are job None = refl
 parts_are job (Some s) = refl
 
 -- one state is found
-pub entry_one : (job : List ℕ) (m : Files) (o p : Option State) → Entry job m o → Entry job m p → o ≡ p
+pub entry_one : (job : List ℕ) (m : Files) (o p : Option State) → SettledEntry job m o → SettledEntry job m p → o ≡ p
 entry_one job m o p a b =
     let settled : a.settled ≡ b.settled = to_one job m a.settled b.settled a.settles b.settles in
     let kept : a.kept ≡ b.kept = keeps_one job b.settled a.kept b.kept
@@ -301,7 +301,7 @@ entry_one job m o p a b =
     sym a.state ∙ ap (option_map state_of) kept ∙ b.state
 
 -- what was loaded is found
-pub found_entry : (job : List ℕ) (l : Loaded) (d e : Disk) → Went (Finds job l) d e → Entry job d.files l.state
+pub found_entry : (job : List ℕ) (l : Loaded) (d e : Disk) → Went (Finds job l) d e → SettledEntry job d.files l.state
 found_entry job l d e w = record {
   settled = last_map d.files w.added;
   settles = w.holds.0;
@@ -311,7 +311,7 @@ found_entry job l d e w = record {
 }
 
 -- nothing is broken then
-pub entry_unbroken : (job name : List ℕ) (m : Files) (o : Option State) → Entry job m o → IsBroken job m name → ⊥
+pub entry_unbroken : (job name : List ℕ) (m : Files) (o : Option State) → SettledEntry job m o → IsBroken job m name → ⊥
 entry_unbroken job name m o found is =
     (damage_is_one job found.settled name (broken_settled job name m found.settled found.settles is)).nothing found.kept
     found.keeps
@@ -330,7 +330,7 @@ NothingCut job o supply old new f =
     CutNot (state_or_empty job o).parts job.limits supply old.plan_faults new.plan_faults f
 
 shrunk_is : (job : Job) (o : Option State) (s : Supply) (part : List ℕ) (next size : ℕ)
-    → ShrunkAt (state_or_empty job o).parts part next size s → IsShrunk job s o part next size
+    → ShrunkAt (state_or_empty job o).parts part next size s → IsFirstShrunk job s o part next size
 shrunk_is job o s part next size a = record { first = a.first; taken = a.taken }
 
 full_is : (job : Job) (o : Option State) (s : Supply) (ranges units : ℕ)
@@ -342,7 +342,7 @@ full_is job o s ranges units a = record {
 }
 
 cut_caused : (job : Job) (o : Option State) (f : RunFault) (old new : World)
-    → IfSome old.disk (λ d. Entry job.name d.files o) → WhereFiled (SettledTo job.name) old new → NoPull old new
+    → IfSome old.disk (λ d. SettledEntry job.name d.files o) → WhereFiled (SettledTo job.name) old new → NoPull old new
     → NothingCut job o old.supply old new f → FaultCaused job old new f
 cut_caused job o (Damaged name) old new entry settled none cut = absurd cut
 cut_caused job o (Shrunk part next size) old new entry settled none cut = record {
@@ -369,7 +369,7 @@ cut_caused job o Memory old new entry settled none cut = tt
 
 -- the first partition that shrank is one
 shrunk_one : (job : Job) (o : Option State) (s : Supply) (part name : List ℕ) (next size at long : ℕ)
-    → IsShrunk job s o part next size → IsShrunk job s o name at long → Shrunk part next size ≡ Shrunk name at long
+    → IsFirstShrunk job s o part next size → IsFirstShrunk job s o name at long → Shrunk part next size ≡ Shrunk name at long
 shrunk_one job o s part name next size at long a b =
     let parts : Table Marks = (state_or_empty job o).parts in
     let same : (part, size) ≡ (name, long) = same_some (part, size) (name, long) (sym a.first ∙ b.first) in
@@ -380,7 +380,7 @@ shrunk_one job o s part name next size at long a b =
 
 -- no partition shrank where the state is full
 shrunk_or_full : (job : Job) (o : Option State) (s : Supply) (part : List ℕ) (next size ranges units : ℕ)
-    → IsShrunk job s o part next size → IsFull job s o ranges units → ⊥
+    → IsFirstShrunk job s o part next size → IsFull job s o ranges units → ⊥
 shrunk_or_full job o s part next size ranges units a b =
     let no : ◌≡◌ {A = Option (List ℕ × ℕ)} None (Some (part, size)) = sym b.unshrunk ∙ a.first in cc
 
@@ -393,29 +393,29 @@ full_one job o s ranges units stored fresh a b =
 
 -- what is refused over the state that is found
 refused_shrunk : (job : Job) (o : Option State) (d : Disk) (s : Supply) (part : List ℕ) (next size : ℕ) (r : RunFault)
-    → Entry job.name d.files o → IsShrunk job s o part next size → Refused job d s r → Shrunk part next size ≡ r
+    → SettledEntry job.name d.files o → IsFirstShrunk job s o part next size → Refused job d s r → Shrunk part next size ≡ r
 refused_shrunk job o d s part next size _ entry is (broken name damaged) =
     absurd (entry_unbroken job.name name d.files o entry damaged)
 refused_shrunk job o d s part next size _ entry is (shrunk p name at long other due) =
     shrunk_one job o s part name next size at long is
-    (subst (λ x. IsShrunk job s x name at long) (entry_one job.name d.files p o other entry) due)
+    (subst (λ x. IsFirstShrunk job s x name at long) (entry_one job.name d.files p o other entry) due)
 refused_shrunk job o d s part next size _ entry is (full p ranges units other due) =
     absurd (shrunk_or_full job o s part next size ranges units is
     (subst (λ x. IsFull job s x ranges units) (entry_one job.name d.files p o other entry) due))
 
 refused_full : (job : Job) (o : Option State) (d : Disk) (s : Supply) (ranges units : ℕ) (r : RunFault)
-    → Entry job.name d.files o → IsFull job s o ranges units → Refused job d s r → Full ranges units ≡ r
+    → SettledEntry job.name d.files o → IsFull job s o ranges units → Refused job d s r → Full ranges units ≡ r
 refused_full job o d s ranges units _ entry is (broken name damaged) =
     absurd (entry_unbroken job.name name d.files o entry damaged)
 refused_full job o d s ranges units _ entry is (shrunk p name at long other due) =
     absurd (shrunk_or_full job o s name at long ranges units
-    (subst (λ x. IsShrunk job s x name at long) (entry_one job.name d.files p o other entry) due) is)
+    (subst (λ x. IsFirstShrunk job s x name at long) (entry_one job.name d.files p o other entry) due) is)
 refused_full job o d s ranges units _ entry is (full p stored fresh other due) =
     full_one job o s ranges units stored fresh is
     (subst (λ x. IsFull job s x stored fresh) (entry_one job.name d.files p o other entry) due)
 
 cut_tells : (job : Job) (o : Option State) (f r : RunFault) (d : Disk) (s : Supply) (old new : World)
-    → Entry job.name d.files o → NothingCut job o (Some s) old new f → Refused job d s r
+    → SettledEntry job.name d.files o → NothingCut job o (Some s) old new f → Refused job d s r
     → ToldFirst {T = Outcome} (Err f) r ⊎ (◌≡◌ {A = Answer} (Err f) (Err SourceFault))
 cut_tells job o (Damaged name) r d s old new entry cut is = absurd cut
 cut_tells job o (Shrunk part next size) r d s old new entry cut is =
@@ -430,7 +430,7 @@ cut_tells job o Memory r d s old new entry cut is = inl (inr (inr refl))
 
 -- where nothing is refused and no device failed, no memory was left
 cut_completes : (job : Job) (o : Option State) (f : RunFault) (d : Disk) (s : Supply) (old new : World)
-    → Entry job.name d.files o → NothingCut job o (Some s) old new f → ((r : RunFault) → Refused job d s r → ⊥)
+    → SettledEntry job.name d.files o → NothingCut job o (Some s) old new f → ((r : RunFault) → Refused job d s r → ⊥)
     → (Rose old.plan_faults new.plan_faults → ⊥) → ◌≡◌ {A = Answer} (Err f) (Err Memory)
 cut_completes job o (Damaged name) d s old new entry cut none planned = absurd cut
 cut_completes job o (Shrunk part next size) d s old new entry cut none planned =
@@ -454,7 +454,7 @@ refused_at_cut job l f old new early found stopped =
     (parts_are job o) stopped in
     let told : (s : Supply) → old.supply ≡ Some s → NothingCut job o (Some s) old new f =
     λ s in_supply. subst (λ (x : Option Supply). NothingCut job o x old new f) in_supply cut in
-    let entry : (d : Disk) → old.disk ≡ Some d → Entry job.name d.files o =
+    let entry : (d : Disk) → old.disk ≡ Some d → SettledEntry job.name d.files o =
     λ d in_old. let t = filed (Went (Finds job.name l)) old new found.told d in_old in
     found_entry job.name l d t.0 t.2 in
     early_answer job f old new early

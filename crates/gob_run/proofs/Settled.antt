@@ -12,7 +12,7 @@ use Rattle.gob_recovery.specs.Settle.{IsDamaged, Settles, SettlesAs}
 use Rattle.gob_recovery.proofs.Damaged.{one_damage}
 use Rattle.gob_recovery.proofs.Spelled.{to_one}
 use Rattle.gob_seq.specs.Faults.{Damages, RoseIfSettleFailed}
-use Rattle.gob_seq.specs.Maps.{Becomes, ImagesSettleTheSame, OnlyUnstages, SettlesByName}
+use Rattle.gob_seq.specs.Maps.{EndsBy, ImagesSettleTheSame, OnlyUnstages, SettlesByName}
 use Rattle.gob_seq.specs.declared.faults.SettleFault.{SettleFault}
 use Rattle.gob_seq.specs.declared.faults.SettleFault.TheVariants as settle_fault
 use Rattle.gob_seq.proofs.Trails.{always, if_both, maps_both}
@@ -51,7 +51,7 @@ only_settled job d e w = record {
 
 -- the maps lead to the one to which the first one settles
 abbrev pub AllSettle : List ℕ → Files → List Files → Type 0
-AllSettle job m added = Becomes (Settles job) m added × OnlySettle job m added
+AllSettle job m added = EndsBy (Settles job) m added × OnlySettle job m added
 
 pub settled_to : (job : List ℕ) (d e : Disk) → Went (AllSettle job) d e → SettledTo job d e
 settled_to job d e w = record {
@@ -61,12 +61,12 @@ settled_to job d e w = record {
 }
 
 -- what is kept of the map that stands is found behind the first one
-pub finds : (job : List ℕ) (l : Loaded) {old between new : Option Disk} → AddsMaps (Becomes (Settles job)) old between
+pub finds : (job : List ℕ) (l : Loaded) {old between new : Option Disk} → AddsMaps (EndsBy (Settles job)) old between
     → new ≡ between → IfSome between (λ d. IsKept job d.files l) → AddsMaps (Finds job l) old new
 finds job l {old} {between} {new} a same kept =
     subst (AddsMaps (Finds job l) old) (sym same) (record { told = told old between a.told kept })
   where
-    told : (o n : Option Disk) → Both (Went (Becomes (Settles job))) o n → IfSome n (λ d. IsKept job d.files l)
+    told : (o n : Option Disk) → Both (Went (EndsBy (Settles job))) o n → IfSome n (λ d. IsKept job d.files l)
         → Both (Went (Finds job l)) o n
     told None None w k = tt
     told None (Some e) w k = w
@@ -92,7 +92,7 @@ settle_stops job old new before now (settle_fault.Damaged name) damages rose =
     unchanged (Some d) damaged = sequence damaged refl
 
 pub load_stops : (job : List ℕ) {old between new : Option Disk} (before middle now : ℕ) (f : LoadFault)
-    → AddsMaps (Becomes (Settles job)) old between → AddsMaps (OnlySettle job) old between → new ≡ between
+    → AddsMaps (EndsBy (Settles job)) old between → AddsMaps (OnlySettle job) old between → new ≡ between
     → BlamesDamage job between f → before ≤ middle → RoseIfLoadFailed middle now f
     → BeginsNot job old new before now (run_of_load f)
 load_stops job before middle now load_fault.Failed settles only same blames later rose =
@@ -143,14 +143,14 @@ settle_tells {T} job r (settle_fault.Damaged blamed) old new is damages = if_bot
 
 -- the map that stands once all is settled
 settled_there : (job : List ℕ) (P : Files → Type 0) (old between : Option Disk)
-    → AddsMaps (Becomes (Settles job)) old between → IfSome between (λ d. P d.files)
+    → AddsMaps (EndsBy (Settles job)) old between → IfSome between (λ d. P d.files)
     → IfSome old (λ d. (settled : Files) × Settles job d.files settled × P settled)
 settled_there job P None between a p = tt
 settled_there job P (Some d) None a p = absurd a.told
 settled_there job P (Some d) (Some e) a p = (e.files, subst (Settles job d.files) (sym a.told.stands) a.told.holds, p)
 
 pub load_tells : {T : Type 0} (job : List ℕ) (r : Result T RunFault) (f : LoadFault) (old between : Option Disk)
-    → r ≡ Err (run_of_load f) → AddsMaps (Becomes (Settles job)) old between → BlamesDamage job between f
+    → r ≡ Err (run_of_load f) → AddsMaps (EndsBy (Settles job)) old between → BlamesDamage job between f
     → TellsBroken job r old
 load_tells job r load_fault.Failed old between is settles blames = always old (λ d name broken. inr (inl is))
 load_tells job r load_fault.Memory old between is settles blames = always old (λ d name broken. inr (inr is))
@@ -161,7 +161,7 @@ load_tells {T} job r (load_fault.Damaged blamed) old between is settles blames =
     (settled_there job (λ m. StateDamaged job m blamed) old between settles blames)
 
 pub found_unbroken : {T : Type 0} (job : List ℕ) (r : Result T RunFault) (l : Loaded) (old between : Option Disk)
-    → AddsMaps (Becomes (Settles job)) old between → IfSome between (λ d. IsKept job d.files l) → TellsBroken job r old
+    → AddsMaps (EndsBy (Settles job)) old between → IfSome between (λ d. IsKept job d.files l) → TellsBroken job r old
 found_unbroken job r l old between settles kept = if_both old (λ d there name broken.
     absurd ((damage_is_one job there.0 name (broken_settled job name d.files there.0 there.1 broken)).nothing there.2.0
     there.2.1))

@@ -14,16 +14,16 @@ use Rattle.gob_history.specs.Laws.{StagedFor, StagedOver}
 use Rattle.gob_segments.specs.Loading.{IsLoaded}
 use Rattle.gob_segments.specs.declared.change.Loaded.{Loaded}
 use Rattle.gob_turns.specs.Taken.{AllStaged}
-use Rattle.gob_commit.specs.Staged.{Made, Pair, RunHasStaged, judged}
+use Rattle.gob_commit.specs.Staged.{PulledUnit, Pair, RunHasStaged, judged_of}
 use Rattle.gob_run.proofs.Fitting.{one_pairs}
 
 -- a unit and its result stand in one place
-made_at : (units : List WorkUnit) (results : List UnitResult) (w : Made) → Contains (zip units results) w
+made_at : (units : List WorkUnit) (results : List UnitResult) (w : PulledUnit) → Contains (zip units results) w
     → (i : ℕ) × (slice_get units i ≡ Some w.0) × (slice_get results i ≡ Some w.1)
 made_at [] results w there = none_in w there
 made_at (u ∷ us) [] w there = none_in w there
 made_at (u ∷ us) (r ∷ rs) w there = ⊎_elim
-    (λ e. (0, ap (λ (v : Made). Some v.0) e, ap (λ (v : Made). Some v.1) e))
+    (λ e. (0, ap (λ (v : PulledUnit). Some v.0) e, ap (λ (v : PulledUnit). Some v.1) e))
     (λ later. let at = made_at us rs w later in (suc at.0, at.1, at.2))
     (in_cases (u, r) (zip us rs) w there)
 
@@ -40,7 +40,7 @@ run_staged job held l units results settled m k closed keeps loaded over staged 
     over = over;
     staged = λ w there good.
         let at = made_at units results w there in
-        subst (λ (ps : List Pair). StagedFor job held (judged w ∷ []) m ps) (one_pairs w.1)
+        subst (λ (ps : List Pair). StagedFor job held (judged_of w ∷ []) m ps) (one_pairs w.1)
         (staged at.0 w.0 w.1 at.1 at.2 good);
   };
   ranges = ranges;

@@ -32,7 +32,7 @@ use Rattle.gob_run.specs.Answers.{PublishesGiven, RunIsFiled, RunIsLeft, TrailIs
 use Rattle.gob_run.specs.Cutting.{CutFits, CutIsTold, parts_of}
 use Rattle.gob_run.specs.Faults.{Finds}
 use Rattle.gob_run.specs.Working.{FiledAlong, FiledToEnd, WentAlong, WentOver, WentToEnd, groups_over}
-use Rattle.gob_run.specs.World.{GoesOn, World}
+use Rattle.gob_run.specs.World.{WorldGoesOn, World}
 use Rattle.gob_run.proofs.Began.{Began, entry_of, found_is_one, parts_same}
 use Rattle.gob_run.proofs.Entering.{run_trail}
 use Rattle.gob_run.proofs.Lasting.{lasting_along}
@@ -58,7 +58,7 @@ pub record IsUnderway (job : Job) (l : Loaded) (cut : Cut) (old mid : World) : T
   pub below : Along (OnlyBelow (under job.name [])) old.disk mid.disk
   pub fits : CutFits (parts_of l.state) job.limits old.supply cut
   pub supply : mid.supply ≡ old.supply
-  pub goes_on : GoesOn old mid
+  pub goes_on : WorldGoesOn old mid
 
 -- the cut over a source that tells
 abbrev pub TellsCut : Job → Loaded → Cut → Supply → Type 0

@@ -36,7 +36,7 @@ use Rattle.gob_state.specs.declared.next.Outcome.{Outcome}
 use Rattle.gob_turns.specs.Taken.{AllStaged, AreFirstPulls, AreResults, FailuresRose, HasPulled, given_up_in}
 use Rattle.gob_turns.specs.declared.fault.TurnsFault.{TurnsFault}
 use Rattle.gob_turns.specs.declared.fault.TurnsFault.TheVariants as turns_fault
-use Rattle.gob_commit.specs.Going.{CommitsAre, GoesAlong, GoesToEnd, GoneAlong, GoneToEnd}
+use Rattle.gob_commit.specs.Going.{CommitsAre, CommitsAlong, GoesToEnd, GoneAlong, GoneToEnd}
 use Rattle.gob_commit.specs.Staged.{HasRules, RunHasStaged}
 use Rattle.gob_commit.specs.declared.rules.CommitRules.{CommitRules}
 use Rattle.gob_commit.specs.declared.rules.Committed.{Committed}
@@ -46,7 +46,7 @@ use Rattle.gob_run.specs.Answers.{AreGivenBy, OutcomeFits, groups_by}
 use Rattle.gob_run.specs.Faults.{run_of_commit, run_of_turns}
 use Rattle.gob_run.specs.Working.{FiledAlong, FiledToEnd, OverFiled, OverLoaded, WentAlong, WentOver, WentOverAll}
 use Rattle.gob_run.specs.Working.{WentToEnd, WorkStops, Worked, groups_over}
-use Rattle.gob_run.specs.World.{GoesOn, World}
+use Rattle.gob_run.specs.World.{WorldGoesOn, World}
 use Rattle.gob_run.specs.declared.fault.RunFault.TheVariants.{Memory}
 use Rattle.gob_run.proofs.Filing.{all_staged_given, are_given_by, none_given}
 use Rattle.gob_run.proofs.Given.{AllGivenIn}
@@ -158,7 +158,7 @@ groups_with job units verdicts = groups_of job.scope (zip units verdicts)
 
 commits_along : (job : Job) (held : Held) (rules : CommitRules) (l : Loaded) (units : List WorkUnit)
     (results : List UnitResult) (verdicts : List Verdict) → HasRules job rules → HaveRanges units
-    → verdicts_in results ≡ verdicts → Join (Staged job held units results) (GoesAlong rules l units results)
+    → verdicts_in results ≡ verdicts → Join (Staged job held units results) (CommitsAlong rules l units results)
     (Over job l (WentOver job held l.state (groups_with job units verdicts)))
 commits_along job held rules l units results verdicts has ranges same m turns commits staged goes =
     λ settled k keeps loaded.
@@ -197,7 +197,7 @@ commits_to_end job held rules l units results verdicts has ranges same m turns c
 filed_along : (job : Job) (held : Held) (rules : CommitRules) (l : Loaded) (units : List WorkUnit)
     (results : List UnitResult) → HasRules job rules → HaveRanges units
     → AreGivenBy job held (judged_by units results)
-    → Join (Staged job held units results) (GoesAlong rules l units results)
+    → Join (Staged job held units results) (CommitsAlong rules l units results)
     (Over job l (FiledAlong job l.state units))
 filed_along job held rules l units results has ranges given m turns commits staged goes =
     λ settled k keeps loaded. record {
@@ -230,7 +230,7 @@ pub record TurnsSay (job : Job) (cut : Cut) (failing : List ℕ) (old new : Worl
   pub maps : Along (OnlyBelow (staging job.name)) old.disk new.disk
   pub failed : FailuresRose failing old.source_faults new.source_faults
   pub planned : new.plan_faults ≡ old.plan_faults
-  pub goes_on : GoesOn old new
+  pub goes_on : WorldGoesOn old new
 
 -- and where they end
 pub record TurnsEnd (job : Job) (cut : Cut) (failing : List ℕ) (results : List UnitResult) (old new : World)
@@ -248,7 +248,7 @@ with_volume w disk faults = record w { disk = disk; volume_faults = faults }
 -- what commits say, whatever they answer
 pub record CommitsSay (job : Job) (rules : CommitRules) (l : Loaded) (units : List WorkUnit)
     (results : List UnitResult) (old : World) (disk : Option Disk) (faults : ℕ) : Type 0 where
-  pub along : AddsMaps (GoesAlong rules l units results) old.disk disk
+  pub along : AddsMaps (CommitsAlong rules l units results) old.disk disk
   pub below : Along (OnlyBelow (under job.name [])) old.disk disk
   pub goes_on : old.volume_faults ≤ faults
 
@@ -323,8 +323,8 @@ given_maps : (job : Job) (cut : Cut) (failing : List ℕ) (results : List UnitRe
 given_maps job cut failing results old mid end = staged_maps job cut failing results old mid end end.given.0
     (all_staged_given job end.given.0 cut.units results mid.disk end.given.1)
 
-goes_on_then : (old mid : World) (disk : Option Disk) (faults : ℕ) → GoesOn old mid → mid.volume_faults ≤ faults
-    → GoesOn old (with_volume mid disk faults)
+goes_on_then : (old mid : World) (disk : Option Disk) (faults : ℕ) → WorldGoesOn old mid → mid.volume_faults ≤ faults
+    → WorldGoesOn old (with_volume mid disk faults)
 goes_on_then old mid disk faults goes later = record {
   source = goes.source;
   planned = goes.planned;
@@ -383,7 +383,7 @@ filed_end_both job l cut failing results rules old mid disk faults end has range
     (are_given_by job end.given.0 cut.units results mid.disk end.given.1))
     (given_maps job cut failing results old mid end) goes)
 
-commits_stop : (fault : CommitFault) (old mid : World) (disk : Option Disk) (faults : ℕ) → GoesOn old mid
+commits_stop : (fault : CommitFault) (old mid : World) (disk : Option Disk) (faults : ℕ) → WorldGoesOn old mid
     → RoseIfFailed mid.volume_faults faults fault → WorkStops old (with_volume mid disk faults) (run_of_commit fault)
 commits_stop commit_fault.Failed old mid disk faults goes rose = let first = goes.volume in omega (arith, first, rose)
 commits_stop commit_fault.Memory old mid disk faults goes rose = tt

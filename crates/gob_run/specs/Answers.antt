@@ -15,7 +15,7 @@ use Rattle.gob_plan.specs.declared.units.UnitResult.{UnitResult}
 use Rattle.gob_meaning.specs.Job.{Job}
 use Rattle.gob_meaning.specs.Results.{verdict_of}
 use Rattle.gob_ledger.specs.Archive.{Agrees}
-use Rattle.gob_ledger.specs.Expected.{IsPublished, bytes_in}
+use Rattle.gob_ledger.specs.Expected.{IsPublished, bytes_of_range}
 use Rattle.gob_ledger.specs.Groups.{groups_of, is_committed}
 use Rattle.gob_ledger.specs.Next.{Judged, is_good}
 use Rattle.gob_ledger.specs.Spelling.{Proper}
@@ -32,8 +32,8 @@ use Rattle.gob_history.specs.Sound.{AllRecoverTo}
 use Rattle.gob_state.specs.Committed.{judged_by, verdicts_in}
 use Rattle.gob_state.specs.declared.next.Outcome.{Outcome}
 use Rattle.gob_turns.specs.Taken.{FailuresRose, HasPulled, given_up_in}
-use Rattle.gob_run.specs.Entry.{Entry, IsFull, IsShrunk, LeftBroken, IsBroken, OnlySettled, Refused, SettledTo, TooMany}
-use Rattle.gob_run.specs.World.{GoesOn, WhereFiled, WhereSupplied, WhereTold, World}
+use Rattle.gob_run.specs.Entry.{SettledEntry, IsFull, IsFirstShrunk, LeftBroken, IsBroken, OnlySettled, Refused, SettledTo, TooMany}
+use Rattle.gob_run.specs.World.{WorldGoesOn, WhereFiled, WhereSupplied, WhereTold, World}
 use Rattle.gob_run.specs.declared.fault.RunFault.{RunFault}
 use Rattle.gob_run.specs.declared.fault.RunFault.TheVariants.{Damaged, Shrunk, Full, SourceFault, VolumeFault, Memory}
 
@@ -48,8 +48,8 @@ groups_by job units results = groups_of job.scope (judged_by units results)
 
 -- a good unit was given all bytes of its range, and its verdict is theirs
 pub record IsGivenBy (job : Job) (held : Held) (j : Judged) : Type 0 where
-  pub whole : length (bytes_in held j.0.part (span_of j.0)) ≡ j.0.hi - j.0.lo
-  pub verdict : j.1 ≡ verdict_of job.plan j.0 (bytes_in held j.0.part (span_of j.0))
+  pub whole : length (bytes_of_range held j.0.part (span_of j.0)) ≡ j.0.hi - j.0.lo
+  pub verdict : j.1 ≡ verdict_of job.plan j.0 (bytes_of_range held j.0.part (span_of j.0))
 
 abbrev pub AreGivenBy : Job → Held → List Judged → Type 0
 AreGivenBy job held judged = (j : Judged) → Contains judged j → is_good j.1 ≡ true → IsGivenBy job held j
@@ -77,14 +77,14 @@ pub record RunIsTold (job : Job) (failing : List ℕ) (o : Option State) (out : 
 -- over both: what such a run leaves, with nothing open and nothing staged, and all that it changed kept
 pub record RunIsLeft (job : Job) (failing : List ℕ) (o : Option State) (out : Outcome) (d : Disk) (s : Supply)
     (e : Disk) (t : Supply) : Type 0 where
-  pub entry : Entry job.name d.files o
+  pub entry : SettledEntry job.name d.files o
   pub settled : IsSettled job.name e.files
   pub ran : Ran job s.held entry.settled o failing out.units (verdicts_in out.results) e.files
   pub lasting : Lasting entry.settled e.files
 
 -- over a volume that tells, whatever the source is: the same of the bytes that its good units were given
 pub record RunIsFiled (job : Job) (o : Option State) (out : Outcome) (d e : Disk) : Type 0 where
-  pub entry : Entry job.name d.files o
+  pub entry : SettledEntry job.name d.files o
   pub settled : IsSettled job.name e.files
   pub given : Held
   pub judged : AreGivenBy job given (judged_by out.units out.results)
@@ -95,7 +95,7 @@ pub record RunIsFiled (job : Job) (o : Option State) (out : Outcome) (d e : Disk
 -- the run found this state, and did what it has to do then; without a unit it has only settled the files
 pub record RunIsDone (job : Job) (failing : List ℕ) (out : Outcome) (old new : World) : Type 0 where
   pub found : Option State
-  pub entry : IfSome old.disk (λ d. Entry job.name d.files found)
+  pub entry : IfSome old.disk (λ d. SettledEntry job.name d.files found)
   pub fits : OutcomeFits job found out
   pub told : WhereSupplied (RunIsTold job failing found out) old new
   pub left : WhereTold (RunIsLeft job failing found out) old new
@@ -137,7 +137,7 @@ pub record PullsAre (job : Job) (failing : List ℕ) (s t : Supply) : Type 0 whe
 pub record PullsAreOf (job : Job) (failing : List ℕ) (d : Disk) (s : Supply) (e : Disk) (t : Supply) : Type 0 where
   pub pulls : List Pull
   pub made : t ≡ with_pulls pulls s
-  pub front : (o : Option State) → Entry job.name d.files o → (rest : List Pull)
+  pub front : (o : Option State) → SettledEntry job.name d.files o → (rest : List Pull)
       × (pulls_in (turns_of job s.held (run_units job s.held o) failing) ≡ pulls ++ rest)
 
 -- a published file is one of the map that was found or of what that settles to, or it is clean, and of a content that
@@ -160,7 +160,7 @@ pub record PublishesGiven (job : Job) (d e : Disk) : Type 0 where
   pub stands : e.files ≡ last_map d.files added
   pub units : List WorkUnit
   pub results : List UnitResult
-  pub fit : (o : Option State) → Entry job.name d.files o → UnitsFit (state_or_empty job o).parts units
+  pub fit : (o : Option State) → SettledEntry job.name d.files o → UnitsFit (state_or_empty job o).parts units
   pub given : Held
   pub judged : AreGivenBy job given (judged_by units results)
   pub publishes : (settled : Files) → Settles job.name d.files settled
@@ -168,7 +168,7 @@ pub record PublishesGiven (job : Job) (d e : Disk) : Type 0 where
 
 -- the state that was found and what the source holds owe no unit
 abbrev pub OwesNothing : Job → Disk → Supply → Type 0
-OwesNothing job d s = (o : Option State) → Entry job.name d.files o → run_units job s.held o ≡ []
+OwesNothing job d s = (o : Option State) → SettledEntry job.name d.files o → run_units job s.held o ≡ []
 
 -- then nothing is changed but what settling changes
 abbrev pub StaysIdle : Job → Disk → Supply → Disk → Supply → Type 0
@@ -183,7 +183,7 @@ NoPull old new = new.supply ≡ old.supply
 pub record IsRefused (job : Job) (right : Supply → Option State → Type 0) (stored : Option State → Type 0)
     (old new : World) : Type 0 where
   pub found : Option State
-  pub entry : IfSome old.disk (λ d. Entry job.name d.files found)
+  pub entry : IfSome old.disk (λ d. SettledEntry job.name d.files found)
   pub told : IfSome old.supply (λ s. right s found)
   pub untold : stored found
   pub files : WhereFiled (SettledTo job.name) old new
@@ -193,7 +193,7 @@ pub record IsRefused (job : Job) (right : Supply → Option State → Type 0) (s
 abbrev pub FaultCaused : Job → World → World → RunFault → Type 0
 FaultCaused job old new (Damaged name) = WhereFiled (LeftBroken job.name name) old new × NoPull old new
 FaultCaused job old new (Shrunk part next size) =
-    IsRefused job (λ s o. IsShrunk job s o part next size) (λ o. Unit {0}) old new
+    IsRefused job (λ s o. IsFirstShrunk job s o part next size) (λ o. Unit {0}) old new
 FaultCaused job old new (Full ranges units) =
     IsRefused job (λ s o. IsFull job s o ranges units) (λ o. TooMany job o ranges units) old new
 FaultCaused job old new SourceFault =
@@ -232,4 +232,4 @@ pub record RunAnswered (job : Job) (failing : List ℕ) (a : Answer) (old new : 
   pub due : Due job old a
   pub completes : Completes job old new a
   pub below : Along (OnlyBelow (under job.name [])) old.disk new.disk
-  pub goes_on : GoesOn old new
+  pub goes_on : WorldGoesOn old new

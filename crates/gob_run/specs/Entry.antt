@@ -16,7 +16,7 @@ use Rattle.gob_run.specs.declared.fault.RunFault.{RunFault}
 use Rattle.gob_run.specs.declared.fault.RunFault.TheVariants.{Damaged, Shrunk, Full}
 
 -- what the files settle to, and what is kept there
-pub record Entry (job : List ℕ) (m : Files) (o : Option State) : Type 0 where
+pub record SettledEntry (job : List ℕ) (m : Files) (o : Option State) : Type 0 where
   pub settled : Files
   pub settles : Settles job m settled
   pub kept : Option Kept
@@ -60,7 +60,7 @@ pub data IsBroken (job : List ℕ) (m : Files) : List ℕ → Type 0 where
       → IsBroken job m name
 
 -- the first partition of the listing that is shorter than what was taken of it
-pub record IsShrunk (job : Job) (s : Supply) (o : Option State) (part : List ℕ) (next size : ℕ) : Type 0 where
+pub record IsFirstShrunk (job : Job) (s : Supply) (o : Option State) (part : List ℕ) (next size : ℕ) : Type 0 where
   pub first : first_shrunk (state_or_empty job o).parts (listing_of s.held) ≡ Some (part, size)
   pub taken : next ≡ next_of (state_or_empty job o).parts part
 
@@ -82,7 +82,7 @@ pub record IsFull (job : Job) (s : Supply) (o : Option State) (ranges units : �
 -- what is to be refused, over devices that tell
 pub data Refused (job : Job) (d : Disk) (s : Supply) : RunFault → Type 0 where
   broken : (name : List ℕ) → IsBroken job.name d.files name → Refused job d s (Damaged name)
-  shrunk : (o : Option State) (part : List ℕ) (next size : ℕ) → Entry job.name d.files o
-      → IsShrunk job s o part next size → Refused job d s (Shrunk part next size)
-  full : (o : Option State) (ranges units : ℕ) → Entry job.name d.files o → IsFull job s o ranges units
+  shrunk : (o : Option State) (part : List ℕ) (next size : ℕ) → SettledEntry job.name d.files o
+      → IsFirstShrunk job s o part next size → Refused job d s (Shrunk part next size)
+  full : (o : Option State) (ranges units : ℕ) → SettledEntry job.name d.files o → IsFull job s o ranges units
       → Refused job d s (Full ranges units)

@@ -28,7 +28,7 @@ use Rattle.gob_state.specs.Committed.{judged_by, verdicts_in}
 use Rattle.gob_state.specs.declared.next.Outcome.{Outcome}
 use Rattle.gob_turns.specs.Taken.{AreFirstPulls, FailuresRose, HasPulled, given_up_in}
 use Rattle.gob_run.specs.Answers.{Answer, AreGivenBy, OutcomeFits, groups_by}
-use Rattle.gob_run.specs.World.{GoesOn, World}
+use Rattle.gob_run.specs.World.{WorldGoesOn, World}
 use Rattle.gob_run.specs.declared.fault.RunFault.{RunFault}
 use Rattle.gob_run.specs.declared.fault.RunFault.TheVariants.{Damaged, Shrunk, Full, SourceFault, VolumeFault, Memory}
 
@@ -120,7 +120,7 @@ pub record Worked (job : Job) (failing : List ℕ) (l : Loaded) (cut : Cut) (a :
   pub stopped : IfErr a (WorkStops old new)
   pub planned : new.plan_faults ≡ old.plan_faults
   pub below : Along (OnlyBelow (under job.name [])) old.disk new.disk
-  pub goes_on : GoesOn old new
+  pub goes_on : WorldGoesOn old new
 
 -- ---- no unit
 

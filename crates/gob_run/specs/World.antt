@@ -14,7 +14,7 @@ pub record World : Type 0 where
   pub volume_faults : ℕ
 
 -- no count of faults has fallen
-pub record GoesOn (old new : World) : Type 0 where
+pub record WorldGoesOn (old new : World) : Type 0 where
   pub source : old.source_faults ≤ new.source_faults
   pub planned : old.plan_faults ≤ new.plan_faults
   pub volume : old.volume_faults ≤ new.volume_faults

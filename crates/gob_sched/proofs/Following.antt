@@ -7,14 +7,14 @@ use Rattle.std.specs.List.{list_any, range_with_len}
 use Rattle.gob_plan.specs.declared.plan.TurnRules.{TurnRules}
 use Rattle.gob_ledger.specs.Counted.{whose_turn}
 use Rattle.gob_sched.specs.Calls.{Call, turn_done, task_ended, MayCallAll, TurnsFollowTheSchedule, after_call}
-use Rattle.gob_sched.specs.Calls.{after_calls, ends, not_ended}
-use Rattle.gob_sched.specs.CoreValue.{CoreValue, after_end, after_turn, started}
+use Rattle.gob_sched.specs.Calls.{core_after_calls, ends_unit, not_ended}
+use Rattle.gob_sched.specs.CoreValue.{CoreValue, after_end, after_turn, core_at_start}
 
 -- what is known of the core after some calls, where so many came before them
 record StandsAfter (c d : CoreValue) (before : ℕ) (calls : List Call) : Type 0 where
   rules : d.rules ≡ c.rules
   place : d.place ≡ (before + length calls) % length c.rules.schedule
-  left : d.left ≡ filter (λ u. not (list_any (ends u) calls)) c.left
+  left : d.left ≡ filter (λ u. not (list_any (ends_unit u) calls)) c.left
 
 no_call : (us : List ℕ) → us ≡ filter (λ u. true) us
 no_call [] = refl
@@ -48,7 +48,7 @@ one_more : (place before n : ℕ) → place ≡ before % n → (place + 1) % n �
 one_more place before n is = ap (λ p. (p + 1) % n) is ∙ mod-add-mod before n 1
 
 stands_after : (calls : List Call) (c : CoreValue) (before : ℕ) → c.place ≡ before % length c.rules.schedule
-    → StandsAfter c (after_calls c calls) before calls
+    → StandsAfter c (core_after_calls c calls) before calls
 stands_after [] c before is = record {
   rules = refl;
   place = is ∙ ap (λ k. k % length c.rules.schedule) (let e : before ≡ before + 0 = omega arith in e);
@@ -69,15 +69,15 @@ stands_after (task_ended unit ∷ xs) c before is =
       rules = later.rules;
       place = later.place ∙ ap (λ k. k % length c.rules.schedule)
           (let e : before + 1 + length xs ≡ before + suc (length xs) = omega arith in e);
-      left = later.left ∙ both_tests (λ u. nat_eq u unit) (λ u. list_any (ends u) xs) c.left;
+      left = later.left ∙ both_tests (λ u. nat_eq u unit) (λ u. list_any (ends_unit u) xs) c.left;
     }
 
 pub follows : TurnsFollowTheSchedule
 follows rules units calls some may =
     let n = length rules.schedule in
     let k = length calls in
-    let s = stands_after calls (started rules units) 0 (sym (zero-mod n)) in
-    let d = after_calls (started rules units) calls in
+    let s = stands_after calls (core_at_start rules units) 0 (sym (zero-mod n)) in
+    let d = core_after_calls (core_at_start rules units) calls in
     let once : d.place % n ≡ k % n =
     ap (λ p. p % n) s.place ∙ (ap (λ p. p % n) (let e : (0 + k) % n ≡ k % n + 0 =
     ap (λ j. j % n) (let z : 0 + k ≡ k = omega arith in z) ∙ (let y : k % n ≡ k % n + 0 = omega arith in y) in e)

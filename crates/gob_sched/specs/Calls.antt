@@ -3,7 +3,7 @@ use Rattle.std.specs.Prelude.{◌≡◌, ℕ, ◌<◌, Bool, false, not, nat_eq,
 use Rattle.std.specs.List.{list_any, range_with_len}
 use Rattle.gob_plan.specs.declared.plan.TurnRules.{TurnRules}
 use Rattle.gob_ledger.specs.Counted.{whose_turn}
-use Rattle.gob_sched.specs.CoreValue.{CoreValue, after_end, after_turn, started}
+use Rattle.gob_sched.specs.CoreValue.{CoreValue, after_end, after_turn, core_at_start}
 
 -- a turn is over, or with it a unit has ended
 pub data Call : Type 0 where
@@ -24,22 +24,22 @@ abbrev pub MayCallAll : CoreValue → List Call → Type 0
 MayCallAll c [] = Unit {0}
 MayCallAll c (x ∷ xs) = MayCall c x × MayCallAll (after_call c x) xs
 
-abbrev pub after_calls : CoreValue → List Call → CoreValue
-after_calls c [] = c
-after_calls c (x ∷ xs) = after_calls (after_call c x) xs
+abbrev pub core_after_calls : CoreValue → List Call → CoreValue
+core_after_calls c [] = c
+core_after_calls c (x ∷ xs) = core_after_calls (after_call c x) xs
 
 -- the call ended this unit
-abbrev pub ends : ℕ → Call → Bool
-ends unit turn_done = false
-ends unit (task_ended other) = nat_eq unit other
+abbrev pub ends_unit : ℕ → Call → Bool
+ends_unit unit turn_done = false
+ends_unit unit (task_ended other) = nat_eq unit other
 
 -- the units that haven't ended in these calls, in their order
 abbrev pub not_ended : ℕ → List Call → List ℕ
-not_ended units calls = filter (λ u. not (list_any (ends u) calls)) (range_with_len 0 units)
+not_ended units calls = filter (λ u. not (list_any (ends_unit u) calls)) (range_with_len 0 units)
 
 -- after every list of calls the core picks, of those units, the one whose turn has the number of the calls so far
 abbrev pub TurnsFollowTheSchedule : Type 0
 TurnsFollowTheSchedule = (rules : TurnRules) (units : ℕ) (calls : List Call) → 0 < length rules.schedule
-    → MayCallAll (started rules units) calls
-    → let c = after_calls (started rules units) calls in
+    → MayCallAll (core_at_start rules units) calls
+    → let c = core_after_calls (core_at_start rules units) calls in
     whose_turn c.rules c.place c.left ≡ whose_turn rules (length calls) (not_ended units calls)

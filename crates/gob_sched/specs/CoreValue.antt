@@ -9,8 +9,8 @@ pub record CoreValue : Type 0 where
   pub left : List ℕ
 
 -- so many units, none of which has had a turn
-abbrev pub started : TurnRules → ℕ → CoreValue
-started rules units = record { rules = rules; place = 0; left = range_with_len 0 units }
+abbrev pub core_at_start : TurnRules → ℕ → CoreValue
+core_at_start rules units = record { rules = rules; place = 0; left = range_with_len 0 units }
 
 -- the next place of the schedule, which begins anew at its end
 abbrev pub after_turn : CoreValue → CoreValue

@@ -2,7 +2,7 @@
 ghost use Rattle.std.specs.Prelude.{◌≡◌, ◌<◌, ◌≤◌, ◌+◌, ◌-◌, ◌++◌, true, length, min, get_or, Contains, IfOk, take};
 ghost use Rattle.std.specs.List.{range_with_len};
 ghost use Rattle.gob_ledger.specs.Counted.{whose_turn};
-ghost use Rattle.gob_sched.specs.CoreValue.{after_end, after_turn, is_rising_below, started};
+ghost use Rattle.gob_sched.specs.CoreValue.{after_end, after_turn, is_rising_below, core_at_start};
 
 use gob_plan::{NoMemory, TurnRules};
 use std::alloc::Global;
@@ -40,7 +40,7 @@ impl Core {
     pub fn start(alloc: Global, units: u32, rules: &TurnRules) -> Result<Core, NoMemory>
         requires slots { 0 < rules.now.slots }
         requires schedule { 0 < length rules.now.schedule }
-        ensures { IfOk result (λ c. c ≡ started rules.now units) }
+        ensures { IfOk result (λ c. c ≡ core_at_start rules.now units) }
     {
         let rules = rules.copy()?;
         let first = units.min(rules.slots);

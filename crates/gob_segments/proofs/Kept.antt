@@ -3,7 +3,7 @@ use Rattle.std.proofs.Common.{◌≡◌, ℕ, suc, ◌+◌, ◌<◌, ◌≤◌, 
 use Rattle.std.proofs.Common.{drop, get_or, sym, ap, ◌∙◌, append_assoc, append-nil, add-one}
 use Rattle.std.specs.List.{filter}
 use Rattle.std.proofs.Math.Seq.{drop-cons}
-use Rattle.gob_bytes.specs.Words.{numbered}
+use Rattle.gob_bytes.specs.Words.{numbered_line}
 use Rattle.gob_ledger.specs.State.{State}
 use Rattle.gob_ledger.specs.Spelling.{pipelines_text, totals_text, version_2}
 use Rattle.gob_ledger.specs.Delta.{delta_spelling}
@@ -42,15 +42,15 @@ kept_all {X} p kept xs all i past inv =
     sym (append-nil kept) ∙ ap (λ (ys : List X). kept ++ filter p ys) (sym (dropped_all xs i past)) ∙ inv
 
 -- the whole text of a change
-pub delta_written : (s t : State) (a b c d e f g : List ℕ) → a ≡ [] → b ≡ a ++ numbered (codes "gobblin-delta") (2 ∷ [])
-    → c ≡ b ++ numbered (codes "run") (t.run ∷ [])
+pub delta_written : (s t : State) (a b c d e f g : List ℕ) → a ≡ [] → b ≡ a ++ numbered_line (codes "gobblin-delta") (2 ∷ [])
+    → c ≡ b ++ numbered_line (codes "run") (t.run ∷ [])
     → d ≡ c ++ pipelines_text version_2 (drop (length s.pipelines) t.pipelines)
     → e ≡ d ++ totals_text t.totals → f ≡ e ++ changed_texts s.parts t.parts → g ≡ f ++ (codes "end" ++ 10 ∷ [])
     → g ≡ delta_spelling version_2 s t
 unfolding delta_spelling
 delta_written s t a b c d e f g ra rb rc rd re rf rg =
-    let first : List ℕ = numbered (codes "gobblin-delta") (2 ∷ []) in
-    let run : List ℕ = numbered (codes "run") (t.run ∷ []) in
+    let first : List ℕ = numbered_line (codes "gobblin-delta") (2 ∷ []) in
+    let run : List ℕ = numbered_line (codes "run") (t.run ∷ []) in
     let pipelines : List ℕ = pipelines_text version_2 (drop (length s.pipelines) t.pipelines) in
     let parts : List ℕ = changed_texts s.parts t.parts in
     rg ∙ ap (λ x. x ++ (codes "end" ++ 10 ∷ [])) (rf ∙ ap (λ x. x ++ parts) (re

@@ -6,7 +6,7 @@ use Rattle.std.proofs.lemmas.Bool.{and_from, and_parts}
 use Rattle.std.proofs.lemmas.Bool.Decides.{nat_tests}
 use Rattle.std.proofs.lemmas.Str.{IsUtf8-append, IsUtf8-from_ascii, IsUtf8-nil}
 use Rattle.std.proofs.lemmas.Str.Ascii.{IsAscii-cons, IsAscii-nil}
-use Rattle.gob_bytes.specs.Digits.{offset, padded}
+use Rattle.gob_bytes.specs.Digits.{offset, padded_digits}
 use Rattle.gob_bytes.specs.Paths.{delta_folder, delta_name, state_name}
 use Rattle.gob_device.specs.Names.{IsPathname, is_name_byte}
 use Rattle.gob_device.proofs.Names.{name_before}
@@ -14,10 +14,10 @@ use Rattle.gob_device.proofs.Names.{name_before}
 one_byte : (b : ℕ) → b < 128 → IsUtf8 (b ∷ [])
 one_byte b small = IsUtf8-from_ascii (b ∷ []) (IsAscii-cons b [] small IsAscii-nil)
 
-digits_text : (k n : ℕ) → IsUtf8 (padded k n)
-unfolding padded
+digits_text : (k n : ℕ) → IsUtf8 (padded_digits k n)
+unfolding padded_digits
 digits_text zero n = IsUtf8-nil
-digits_text (suc k) n = IsUtf8-append (padded k (n / 10)) ((48 + n % 10) ∷ []) (digits_text k (n / 10))
+digits_text (suc k) n = IsUtf8-append (padded_digits k (n / 10)) ((48 + n % 10) ∷ []) (digits_text k (n / 10))
     (one_byte (48 + n % 10) (omega arith))
 
 pub offset_text : (n : ℕ) → IsUtf8 (offset n)
@@ -47,11 +47,11 @@ digit_behind (c ∷ cs) b all one =
     let p = and_parts (is_name_byte c) (list_all is_name_byte cs) all in
     and_from (is_name_byte c) (list_all is_name_byte (cs ++ b ∷ [])) p.0 (digit_behind cs b p.1 one)
 
-digits_named : (k n : ℕ) → list_all is_name_byte (padded k n) ≡ true
-unfolding padded
+digits_named : (k n : ℕ) → list_all is_name_byte (padded_digits k n) ≡ true
+unfolding padded_digits
 digits_named zero n = refl
 digits_named (suc k) n =
-    digit_behind (padded k (n / 10)) (48 + n % 10) (digits_named k (n / 10)) (grind (arith, nat_tests))
+    digit_behind (padded_digits k (n / 10)) (48 + n % 10) (digits_named k (n / 10)) (grind (arith, nat_tests))
 
 pub change_named : (job : List ℕ) (run : ℕ) → IsPathname job → IsPathname (delta_name job run)
 unfolding offset

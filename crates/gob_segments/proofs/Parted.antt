@@ -28,7 +28,7 @@ use Rattle.gob_state.proofs.Steps.{Pairing, behind_text, both_read, first_missin
 use Rattle.gob_state.proofs.Steps.{refused, second_missing}
 use Rattle.gob_state.specs.Parts.{head_text, IsHead, IsPart, NoPart, part_rest}
 use Rattle.gob_state.specs.Ranges.{AreMarks, NoRange, ranges_text}
-use Rattle.gob_state.specs.Reads.{Reads}
+use Rattle.gob_state.specs.Reads.{ReadsSpelling}
 use Rattle.gob_text.specs.Words.{GoesOnAtAll, IsName, TakesText}
 use Rattle.gob_segments.proofs.Put.{follow_itself, none_changed}
 use Rattle.gob_segments.proofs.PutLines.{ranges_some}
@@ -228,8 +228,8 @@ as_before v n t old rest u last some q less =
 -- a change over the table so far is one over the table before
 over_first : (v : Version) (n : ℕ) (t : Table Marks) (old rest new : List ℕ) (u : Table Marks) (last : List ℕ)
     (some : SomeChanges v n t old rest u last) (mid : List ℕ) (o : Option (List ℕ × Marks))
-    → Reads (change_rest v u) (IsChange v n u last) NoRange mid new o
-    → Reads (change_rest v t) (IsChange v n t last) NoRange mid new o
+    → ReadsSpelling (change_rest v u) (IsChange v n u last) NoRange mid new o
+    → ReadsSpelling (change_rest v t) (IsChange v n t last) NoRange mid new o
 over_first v n t old rest new u last some mid o r = record { spelled = told o r.spelled; read = back }
   where
     same : (q : List ℕ) → name_cmp last q ≡ Less → marks_in u q ≡ marks_in t q
@@ -292,9 +292,9 @@ one_more_change v n t old rest mid u last some there = record {
 
 whole_change : (v : Version) (n : ℕ) (t : Table Marks) (last rest mid new : List ℕ) (b : Bool)
     (o : Option (List ℕ × Marks))
-    → TakesText (codes "partition") rest mid b → b ≡ true → Reads (change_rest v t) (IsChange v n t last) NoRange mid
+    → TakesText (codes "partition") rest mid b → b ≡ true → ReadsSpelling (change_rest v t) (IsChange v n t last) NoRange mid
     new o
-    → Reads (entry_text v t) (IsChange v n t last) NoRange rest new o
+    → ReadsSpelling (entry_text v t) (IsChange v n t last) NoRange rest new o
 whole_change v n t last rest mid new b o text taken r =
     behind_text (codes "partition") rest mid new b o (λ e. refl) text taken r
 
@@ -335,7 +335,7 @@ order_last (n ∷ o ∷ ns) x q order = order_last (o ∷ ns) x q order.1
 pub next_change : (v : Version) (n : ℕ) (t : Table Marks) (old rest mid new : List ℕ) (u after : Table Marks)
     (last name : List ℕ) (e : List ℕ × Marks) (b : Bool) → SomeChanges v n t old rest u last
     → TakesText (codes "partition") rest mid b → b ≡ true
-    → Reads (change_rest v u) (IsChange v n u last) NoRange mid new (Some e) → after ≡ with_name u e.0 e.1 → name ≡ e.0
+    → ReadsSpelling (change_rest v u) (IsChange v n u last) NoRange mid new (Some e) → after ≡ with_name u e.0 e.1 → name ≡ e.0
     → SomeChanges v n t old new after name
 next_change v n t old rest mid new u after last name e b some text taken read is level =
     subst (λ x. SomeChanges v n t old new x name) (sym is)
@@ -362,7 +362,7 @@ next_change v n t old rest mid new u after last name e b some text taken read is
           ∙ ap (λ o. option_or o (at_name t q)) (sym (at_push some.changed e q (not_among some.changed e.0 order)));
     }))
   where
-    r : Reads (change_rest v t) (IsChange v n t last) NoRange mid new (Some e)
+    r : ReadsSpelling (change_rest v t) (IsChange v n t last) NoRange mid new (Some e)
     r = over_first v n t old rest new u last some mid (Some e) read
 
     put : IsPut v n t e
@@ -393,8 +393,8 @@ abbrev Spelled : Version → Table Marks → Table Marks → List ℕ
 Spelled v t u = parts_text v (changed_table t u)
 
 none_read : (v : Version) (n : ℕ) (t : Table Marks) (old new : List ℕ)
-    → Reads (λ es. flat_map (entry_text v t) es) (Whole v n t) NoPart old new None
-    → Reads (Spelled v t) (PartsAfter v n t) NoPart old new None
+    → ReadsSpelling (λ es. flat_map (entry_text v t) es) (Whole v n t) NoPart old new None
+    → ReadsSpelling (Spelled v t) (PartsAfter v n t) NoPart old new None
 none_read v n t old new r = record {
   spelled = tt;
   read = λ u after f g e. absurd (no_more (filter (has_changed t) u)
@@ -403,8 +403,8 @@ none_read v n t old new r = record {
 
 pub change_missing : (v : Version) (n : ℕ) (t : Table Marks) (old rest mid any new : List ℕ) (u : Table Marks)
     (last : List ℕ) (b : Bool) → SomeChanges v n t old rest u last → TakesText (codes "partition") rest mid b → b ≡ true
-    → Reads (change_rest v u) (IsChange v n u last) NoRange mid any None
-    → Reads (Spelled v t) (PartsAfter v n t) NoPart old new None
+    → ReadsSpelling (change_rest v u) (IsChange v n u last) NoRange mid any None
+    → ReadsSpelling (Spelled v t) (PartsAfter v n t) NoPart old new None
 change_missing v n t old rest mid any new u last b some text taken r = none_read v n t old new
     (one_missing old rest any new some.changed None None some.along
     (one_more_change v n t old rest mid u last some (text.spelled taken))
@@ -517,9 +517,9 @@ one_table v n t old rest u k last some order a is = same_tables u k order a.name
 
 pub changes_read : (v : Version) (n : ℕ) (t : Table Marks) (old rest new : List ℕ) (u : Table Marks) (last : List ℕ)
     (b : Bool) → SomeChanges v n t old rest u last → TakesText (codes "partition") rest new b → b ≡ false
-    → Reads (Spelled v t) (PartsAfter v n t) NoPart old new (Some u)
+    → ReadsSpelling (Spelled v t) (PartsAfter v n t) NoPart old new (Some u)
 changes_read v n t old rest new u last b some text gone =
-    subst (λ x. Reads (Spelled v t) (PartsAfter v n t) NoPart old x (Some u)) (sym (text.unchanged gone)) (record {
+    subst (λ x. ReadsSpelling (Spelled v t) (PartsAfter v n t) NoPart old x (Some u)) (sym (text.unchanged gone)) (record {
       spelled = (
         after_all,
         all.spelled.1 ∙ ap (λ x. x ++ rest) (ap (flat_map (entry_text v t)) these ∙ sym (texts_are v t u)),
@@ -539,7 +539,7 @@ changes_read v n t old rest new u last b some text gone =
     these : some.changed ≡ filter (has_changed t) u
     these = only_these v n t old rest u last some.order some
 
-    all : Reads (λ es. flat_map (entry_text v t) es) (Whole v n t) NoPart old rest (Some some.changed)
+    all : ReadsSpelling (λ es. flat_map (entry_text v t) es) (Whole v n t) NoPart old rest (Some some.changed)
     all = all_read old rest some.changed some.along (u, after_all, these)
         (λ z zs after w g e. true≢false (sym (text.read (change_rest v t z ++ (flat_map (entry_text v t) zs ++ after))
         (e ∙ append_assoc (codes "partition") (change_rest v t z) (flat_map (entry_text v t) zs ++ after))).0 ∙ gone))
@@ -547,15 +547,15 @@ changes_read v n t old rest new u last b some text gone =
 -- ---- a partition as it is read
 
 pub head_above : (last name : List ℕ) (next : ℕ) (old mid : List ℕ) (o : Option (List ℕ × ℕ))
-    → Reads head_text IsHead GoesOnAtAll old mid o → o ≡ Some (name, next) → name_cmp last name ≡ Less
-    → Reads head_text (IsNextHead last) GoesOnAtAll old mid (Some (name, next))
+    → ReadsSpelling head_text IsHead GoesOnAtAll old mid o → o ≡ Some (name, next) → name_cmp last name ≡ Less
+    → ReadsSpelling head_text (IsNextHead last) GoesOnAtAll old mid (Some (name, next))
 head_above last name next old mid o r is less =
     let there = is_there old mid o (name, next) r is in
     passed old mid (name, next) there (λ p h. h.0) (there.spelled.0, less)
 
 pub head_not_above : (v : Version) (n : ℕ) (t : Table Marks) (last name : List ℕ) (next : ℕ) (old mid new : List ℕ)
-    (o : Option (List ℕ × ℕ)) → Reads head_text IsHead GoesOnAtAll old mid o → o ≡ Some (name, next)
-    → (name_cmp last name ≡ Less → ⊥) → Reads (change_rest v t) (IsChange v n t last) NoRange old new None
+    (o : Option (List ℕ × ℕ)) → ReadsSpelling head_text IsHead GoesOnAtAll old mid o → o ≡ Some (name, next)
+    → (name_cmp last name ≡ Less → ⊥) → ReadsSpelling (change_rest v t) (IsChange v n t last) NoRange old new None
 head_not_above v n t last name next old mid new o r is out =
     first_missing (change_pairing v n t last) old mid new None None
     (refused old mid mid (name, next) None (is_there old mid o (name, next) r is) (λ p h. h.0) (λ h. out h.1) refl) refl
@@ -564,46 +564,46 @@ head_not_above v n t last name next old mid new o r is out =
 -- the ranges read over the marks of a partition
 pub over_marks : (v : Version) (n : ℕ) (t : Table Marks) (name named : List ℕ) (b : Marks) (mid new : List ℕ)
     (o : Option Marks) → b ≡ marks_in t named → named ≡ name
-    → Reads (λ m. ranges_text v (changed_marks b m)) (MarksAfter v n b) NoRange mid new o
-    → Reads (λ m. ranges_text v (changed_marks (marks_in t name) m)) (MarksAfter v n (marks_in t name)) NoRange mid new
+    → ReadsSpelling (λ m. ranges_text v (changed_marks b m)) (MarksAfter v n b) NoRange mid new o
+    → ReadsSpelling (λ m. ranges_text v (changed_marks (marks_in t name) m)) (MarksAfter v n (marks_in t name)) NoRange mid new
     o
 over_marks v n t name named b mid new o is level r =
-    subst (λ x. Reads (λ m. ranges_text v (changed_marks x m)) (MarksAfter v n x) NoRange mid new o)
+    subst (λ x. ReadsSpelling (λ m. ranges_text v (changed_marks x m)) (MarksAfter v n x) NoRange mid new o)
     (is ∙ ap (marks_in t) level) r
 
 pub change_none : (v : Version) (n : ℕ) (t : Table Marks) (last name : List ℕ) (next : ℕ) (old mid new : List ℕ)
     (o : Option Marks)
-    → Reads head_text (IsNextHead last) GoesOnAtAll old mid (Some (name, next))
-    → Reads (λ m. ranges_text v (changed_marks (marks_in t name) m)) (MarksAfter v n (marks_in t name)) NoRange mid new
+    → ReadsSpelling head_text (IsNextHead last) GoesOnAtAll old mid (Some (name, next))
+    → ReadsSpelling (λ m. ranges_text v (changed_marks (marks_in t name) m)) (MarksAfter v n (marks_in t name)) NoRange mid new
     o
-    → o ≡ None → Reads (change_rest v t) (IsChange v n t last) NoRange old new None
+    → o ≡ None → ReadsSpelling (change_rest v t) (IsChange v n t last) NoRange old new None
 change_none v n t last name next old mid new o head r none =
     second_missing (change_pairing v n t last) old mid new (name, next) None None head
     (not_even mid new new o None r (λ m h. h.0) none refl) refl refl
 
 pub change_other : (v : Version) (n : ℕ) (t : Table Marks) (last name : List ℕ) (next : ℕ) (old mid new : List ℕ)
     (o : Option Marks) (m : Marks)
-    → Reads head_text (IsNextHead last) GoesOnAtAll old mid (Some (name, next))
-    → Reads (λ m. ranges_text v (changed_marks (marks_in t name) m)) (MarksAfter v n (marks_in t name)) NoRange mid new
+    → ReadsSpelling head_text (IsNextHead last) GoesOnAtAll old mid (Some (name, next))
+    → ReadsSpelling (λ m. ranges_text v (changed_marks (marks_in t name) m)) (MarksAfter v n (marks_in t name)) NoRange mid new
     o
-    → o ≡ Some m → (m.next ≡ next → ⊥) → Reads (change_rest v t) (IsChange v n t last) NoRange old new None
+    → o ≡ Some m → (m.next ≡ next → ⊥) → ReadsSpelling (change_rest v t) (IsChange v n t last) NoRange old new None
 change_other v n t last name next old mid new o m head r some apart =
     second_missing (change_pairing v n t last) old mid new (name, next) None None head
     (refused mid new new m None (is_there mid new o m r some) (λ k h. h.0) (λ h. apart h.1) refl) refl refl
 
 pub change_there : (v : Version) (n : ℕ) (t : Table Marks) (last name : List ℕ) (next : ℕ) (old mid new : List ℕ)
     (o : Option Marks) (m : Marks)
-    → Reads head_text (IsNextHead last) GoesOnAtAll old mid (Some (name, next))
-    → Reads (λ m. ranges_text v (changed_marks (marks_in t name) m)) (MarksAfter v n (marks_in t name)) NoRange mid new
+    → ReadsSpelling head_text (IsNextHead last) GoesOnAtAll old mid (Some (name, next))
+    → ReadsSpelling (λ m. ranges_text v (changed_marks (marks_in t name) m)) (MarksAfter v n (marks_in t name)) NoRange mid new
     o
-    → o ≡ Some m → m.next ≡ next → Reads (change_rest v t) (IsChange v n t last) NoRange old new (Some (name, m))
+    → o ≡ Some m → m.next ≡ next → ReadsSpelling (change_rest v t) (IsChange v n t last) NoRange old new (Some (name, m))
 change_there v n t last name next old mid new o m head r some level =
     let there = is_there mid new o m r some in
     both_read (change_pairing v n t last) old mid new (name, next) m (Some m) (Some (name, m)) head
     (passed mid new m there (λ k h. h.0) (there.spelled.0, level)) refl refl
 
 pub named_last : (v : Version) (n : ℕ) (u : Table Marks) (given last : List ℕ) (mid new : List ℕ)
-    (o : Option (List ℕ × Marks)) → given ≡ last → Reads (change_rest v u) (IsChange v n u given) NoRange mid new o
-    → Reads (change_rest v u) (IsChange v n u last) NoRange mid new o
+    (o : Option (List ℕ × Marks)) → given ≡ last → ReadsSpelling (change_rest v u) (IsChange v n u given) NoRange mid new o
+    → ReadsSpelling (change_rest v u) (IsChange v n u last) NoRange mid new o
 named_last v n u given last mid new o is r =
-    subst (λ x. Reads (change_rest v u) (IsChange v n u x) NoRange mid new o) is r
+    subst (λ x. ReadsSpelling (change_rest v u) (IsChange v n u x) NoRange mid new o) is r

@@ -8,26 +8,26 @@ use Rattle.std.specs.Str.{bytes_eq}
 use Rattle.std.proofs.lemmas.Bool.{true≢false}
 use Rattle.std.proofs.lemmas.Option.{same_Some}
 use Rattle.gob_bytes.proofs.Tables.{name_itself, same_name, two_names}
-use Rattle.gob_bytes.specs.Words.{numbered}
+use Rattle.gob_bytes.specs.Words.{numbered_line}
 use Rattle.gob_ledger.specs.Spelling.{IsKeptPipeline, version_1, version_2, pipeline_part}
 use Rattle.gob_ledger.specs.Delta.{OneMore}
 use Rattle.gob_state.proofs.SettingLemmas.{each_push}
 use Rattle.gob_state.proofs.Steps.{no_more}
-use Rattle.gob_state.specs.Reads.{Reads}
+use Rattle.gob_state.specs.Reads.{ReadsSpelling}
 use Rattle.gob_text.specs.Words.{GoesOnAtAll}
 use Rattle.gob_segments.specs.Applied.{AreApart, PipelinesAfter, later_text}
 
 -- ---- the first version
 
 pub alone_read : (ps : List (List ℕ)) (text : List ℕ) → AreApart ps → length ps ≡ 1
-    → Reads (later_text version_1 ps) (PipelinesAfter version_1 ps) GoesOnAtAll text text (Some ps)
+    → ReadsSpelling (later_text version_1 ps) (PipelinesAfter version_1 ps) GoesOnAtAll text text (Some ps)
 alone_read ps text apart one = record {
   spelled = (record { more = inl refl; apart = apart; alone = (one, refl) }, refl);
   read = λ qs after f g e. (ap Some (sym f.alone.1), e);
 }
 
 pub not_alone : (ps : List (List ℕ)) (text : List ℕ) → (length ps ≡ 1 → ⊥)
-    → Reads (later_text version_1 ps) (PipelinesAfter version_1 ps) GoesOnAtAll text text None
+    → ReadsSpelling (later_text version_1 ps) (PipelinesAfter version_1 ps) GoesOnAtAll text text None
 not_alone ps text several = record { spelled = tt; read = λ qs after f g e. absurd (several f.alone.0) }
 
 -- ---- the second version
@@ -41,7 +41,7 @@ drop_front [] qs = refl
 drop_front (p ∷ ps) qs = drop_front ps qs
 
 abbrev count_text : ℕ → List ℕ
-count_text n = numbered (codes "pipelines") (n ∷ [])
+count_text n = numbered_line (codes "pipelines") (n ∷ [])
 
 none_text : (ps qs : List (List ℕ)) → qs ≡ ps → later_text version_2 ps qs ≡ count_text 0
 none_text ps qs e =
@@ -55,7 +55,7 @@ one_text ps qs p e =
     ∙ ap (λ x. count_text 1 ++ x) (append-nil (pipeline_part p))
 
 abbrev CountReads : List ℕ → List ℕ → Option ℕ → Type 0
-CountReads old mid o = Reads count_text (λ n. n < 2 ^ 64) GoesOnAtAll old mid o
+CountReads old mid o = ReadsSpelling count_text (λ n. n < 2 ^ 64) GoesOnAtAll old mid o
 
 -- what a number that was read says of the pipelines
 abbrev Told : List (List ℕ) → List (List ℕ) → List ℕ → List ℕ → Option ℕ → Type 0
@@ -76,7 +76,7 @@ told ps qs old mid after o r f e = ⊎_elim
     f.more
 
 abbrev Later : List (List ℕ) → List ℕ → List ℕ → Option (List (List ℕ)) → Type 0
-Later ps old new o = Reads (later_text version_2 ps) (PipelinesAfter version_2 ps) GoesOnAtAll old new o
+Later ps old new o = ReadsSpelling (later_text version_2 ps) (PipelinesAfter version_2 ps) GoesOnAtAll old new o
 
 pub no_count : (ps : List (List ℕ)) (old mid : List ℕ) (o : Option ℕ) → CountReads old mid o → o ≡ None
     → Later ps old mid None
@@ -126,7 +126,7 @@ last_kept ps qs p is all = each_first IsKeptPipeline ps p (subst (AllByRecursion
 
 pub none_there : (ps : List (List ℕ)) (old mid new : List ℕ) (o : Option ℕ) (count : ℕ) (q : Option (List ℕ))
     → CountReads old mid o → o ≡ Some count → (count ≡ 0 → ⊥)
-    → Reads pipeline_part IsKeptPipeline GoesOnAtAll mid new q → q ≡ None → Later ps old new None
+    → ReadsSpelling pipeline_part IsKeptPipeline GoesOnAtAll mid new q → q ≡ None → Later ps old new None
 none_there ps old mid new o count q r is some read none = record {
   spelled = tt;
   read = λ qs after f g e. absurd (⊎_elim
@@ -166,7 +166,7 @@ push_differs (x ∷ xs) p d e =
 -- ---- one that came
 
 abbrev OneReads : List ℕ → List ℕ → Option (List ℕ) → Type 0
-OneReads mid new q = Reads pipeline_part IsKeptPipeline GoesOnAtAll mid new q
+OneReads mid new q = ReadsSpelling pipeline_part IsKeptPipeline GoesOnAtAll mid new q
 
 pub came_before : (ps : List (List ℕ)) (old mid new : List ℕ) (o : Option ℕ) (count : ℕ) (q : Option (List ℕ))
     (p : List ℕ) → CountReads old mid o → o ≡ Some count → (count ≡ 0 → ⊥) → OneReads mid new q → q ≡ Some p

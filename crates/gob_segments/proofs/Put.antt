@@ -28,7 +28,7 @@ use Rattle.gob_state.specs.Ranges.{AreMarks, IndexIs, IsRangeLine}
 use Rattle.gob_state.specs.declared.ranges.RangeLine.{RangeLine}
 use Rattle.gob_state.specs.declared.ranges.RangeLine.TheVariants.{Done, Open}
 use Rattle.gob_segments.proofs.Changed.{one_holds}
-use Rattle.gob_segments.specs.Applied.{CanPut, MarksAfter, begin_of, with_line}
+use Rattle.gob_segments.specs.Applied.{CanPut, MarksAfter, begin_of, with_range_line}
 
 -- ---- lists
 
@@ -554,7 +554,7 @@ put_done v n b m from xs d tiled p fits can false is =
 
 pub put_more : (v : Version) (n : ℕ) (b m : Marks) (from : ℕ) (xs : List Range) (l : RangeLine) → Tiled b
     → Put v n b m from xs → IsRangeLine v l → CanPut from n m l
-    → Put v n b (with_line l m) (begin_of l + 1) (xs ++ range_of l ∷ [])
+    → Put v n b (with_range_line l m) (begin_of l + 1) (xs ++ range_of l ∷ [])
 put_more v n b m from xs (Done d) tiled p fits can =
     put_done v n b m from xs d tiled p fits can (nat_lt d.span.lo m.next) refl
 put_more v n b m from xs (Open s) tiled p fits can =

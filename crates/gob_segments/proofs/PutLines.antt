@@ -20,13 +20,13 @@ use Rattle.gob_state.proofs.RangeLemmas.{begins_line, line_back, line_of, range_
 use Rattle.gob_state.proofs.RangeLemmas.{ranges_spelled, spelled_back}
 use Rattle.gob_state.proofs.Steps.{no_more}
 use Rattle.gob_state.specs.Ranges.{AreMarks, BeginsRange, IsRangeLine, NoRange, range_text, ranges_text}
-use Rattle.gob_state.specs.Reads.{Reads}
+use Rattle.gob_state.specs.Reads.{ReadsSpelling}
 use Rattle.gob_state.specs.declared.ranges.RangeLine.{RangeLine}
 use Rattle.gob_state.specs.declared.ranges.RangeLine.TheVariants.{Done, Open}
 use Rattle.gob_text.specs.Words.{GoesOnAtAll}
 use Rattle.gob_segments.proofs.Put.{Put, changed_ranges, gathered_done, gathered_owed, none_put, parted, put_more}
 use Rattle.gob_segments.proofs.PutAll.{all_put, next_fits}
-use Rattle.gob_segments.specs.Applied.{CanPut, MarksAfter, begin_of, with_line}
+use Rattle.gob_segments.specs.Applied.{CanPut, MarksAfter, begin_of, with_range_line}
 
 -- the ranges of some whole change
 abbrev Whole : Version → ℕ → Marks → List Range → Type 0
@@ -53,8 +53,8 @@ FitsNext v n from m r = IsRangeLine v (line_of r) × CanPut from n m (line_of r)
 
 -- a line that was read, as a range of the ledger's
 next_read : (v : Version) (n from : ℕ) (m : Marks) (rest new : List ℕ) (l : RangeLine)
-    → Reads (range_text v) (IsRangeLine v) GoesOnAtAll rest new (Some l) → CanPut from n m l
-    → Reads (range_bytes v) (FitsNext v n from m) GoesOnAtAll rest new (Some (range_of l))
+    → ReadsSpelling (range_text v) (IsRangeLine v) GoesOnAtAll rest new (Some l) → CanPut from n m l
+    → ReadsSpelling (range_bytes v) (FitsNext v n from m) GoesOnAtAll rest new (Some (range_of l))
 next_read v n from m rest new l r can = record {
   spelled = (both l r.spelled.0 can, r.spelled.1 ∙ ap (λ t. t ++ new) (range_spelled v l));
   read = λ q after f g e.
@@ -67,8 +67,8 @@ next_read v n from m rest new l r can = record {
     both (Open s) f c = (f, c)
 
 none_next : (v : Version) (n from : ℕ) (m : Marks) (rest mid any : List ℕ)
-    → Reads (range_text v) (IsRangeLine v) GoesOnAtAll rest mid None
-    → Reads (range_bytes v) (FitsNext v n from m) GoesOnAtAll rest any None
+    → ReadsSpelling (range_text v) (IsRangeLine v) GoesOnAtAll rest mid None
+    → ReadsSpelling (range_bytes v) (FitsNext v n from m) GoesOnAtAll rest any None
 none_next v n from m rest mid any r = record {
   spelled = tt;
   read = λ q after f g e. absurd (no_more (line_of q)
@@ -76,8 +76,8 @@ none_next v n from m rest mid any r = record {
 }
 
 next_refused : (v : Version) (n from : ℕ) (m : Marks) (rest mid any : List ℕ) (l : RangeLine)
-    → Reads (range_text v) (IsRangeLine v) GoesOnAtAll rest mid (Some l) → (CanPut from n m l → ⊥)
-    → Reads (range_bytes v) (FitsNext v n from m) GoesOnAtAll rest any None
+    → ReadsSpelling (range_text v) (IsRangeLine v) GoesOnAtAll rest mid (Some l) → (CanPut from n m l → ⊥)
+    → ReadsSpelling (range_bytes v) (FitsNext v n from m) GoesOnAtAll rest any None
 next_refused v n from m rest mid any l r never = record {
   spelled = tt;
   read = λ q after f g e.
@@ -99,11 +99,11 @@ one_more_range v n b old rest m from some begins = record {
 
 pub next_put : (v : Version) (n : ℕ) (b : Marks) (old rest new : List ℕ) (m after : Marks) (from behind : ℕ)
     (l : RangeLine) → SomePut v n b old rest m from → BeginsRange rest
-    → Reads (range_text v) (IsRangeLine v) GoesOnAtAll rest new (Some l) → CanPut from n m l → after ≡ with_line l m
+    → ReadsSpelling (range_text v) (IsRangeLine v) GoesOnAtAll rest new (Some l) → CanPut from n m l → after ≡ with_range_line l m
     → behind ≡ begin_of l + 1 → SomePut v n b old new after behind
 next_put v n b old rest new m after from behind l some begins r can is at =
     subst (λ x. SomePut v n b old new x behind) (sym is)
-    (subst (SomePut v n b old new (with_line l m)) (sym at) (record {
+    (subst (SomePut v n b old new (with_range_line l m)) (sym at) (record {
       ranges = some.ranges ++ range_of l ∷ [];
       tiled = some.tiled;
       along = one_more old rest new some.ranges (range_of l) some.along
@@ -123,8 +123,8 @@ abbrev Spelled : Version → Marks → Marks → List ℕ
 Spelled v b m = ranges_text v (changed_marks b m)
 
 none_read : (v : Version) (n : ℕ) (b : Marks) (old new : List ℕ)
-    → Reads (λ rs. flat_map (range_bytes v) rs) (Whole v n b) NoRange old new None
-    → Reads (Spelled v b) (MarksAfter v n b) NoRange old new None
+    → ReadsSpelling (λ rs. flat_map (range_bytes v) rs) (Whole v n b) NoRange old new None
+    → ReadsSpelling (Spelled v b) (MarksAfter v n b) NoRange old new None
 none_read v n b old new r = record {
   spelled = tt;
   read = λ k after f g e. absurd (no_more (changed_ranges b k)
@@ -133,16 +133,16 @@ none_read v n b old new r = record {
 }
 
 pub put_malformed : (v : Version) (n : ℕ) (b : Marks) (old rest mid new : List ℕ) (m : Marks) (from : ℕ)
-    → SomePut v n b old rest m from → BeginsRange rest → Reads (range_text v) (IsRangeLine v) GoesOnAtAll rest mid None
-    → Reads (Spelled v b) (MarksAfter v n b) NoRange old new None
+    → SomePut v n b old rest m from → BeginsRange rest → ReadsSpelling (range_text v) (IsRangeLine v) GoesOnAtAll rest mid None
+    → ReadsSpelling (Spelled v b) (MarksAfter v n b) NoRange old new None
 put_malformed v n b old rest mid new m from some begins r = none_read v n b old new
     (one_missing old rest new new some.ranges None None some.along (one_more_range v n b old rest m from some begins)
     (none_next v n from m rest mid new r) refl refl)
 
 pub put_refused : (v : Version) (n : ℕ) (b : Marks) (old rest mid new : List ℕ) (m : Marks) (from : ℕ) (l : RangeLine)
     → SomePut v n b old rest m from → BeginsRange rest
-    → Reads (range_text v) (IsRangeLine v) GoesOnAtAll rest mid (Some l) → (CanPut from n m l → ⊥)
-    → Reads (Spelled v b) (MarksAfter v n b) NoRange old new None
+    → ReadsSpelling (range_text v) (IsRangeLine v) GoesOnAtAll rest mid (Some l) → (CanPut from n m l → ⊥)
+    → ReadsSpelling (Spelled v b) (MarksAfter v n b) NoRange old new None
 put_refused v n b old rest mid new m from l some begins r never = none_read v n b old new
     (one_missing old rest new new some.ranges None None some.along (one_more_range v n b old rest m from some begins)
     (next_refused v n from m rest mid new l r never) refl refl)
@@ -175,7 +175,7 @@ no_ranges v n b m (r ∷ xs) p = absurd (let less = p.below r (first_in r xs r r
 -- no line of a range stands at the front, and none stood before: no change is read
 pub none_put_read : (v : Version) (n : ℕ) (b : Marks) (old rest new : List ℕ) (m : Marks) (from : ℕ)
     → SomePut v n b old rest m from → NoRange rest → from ≡ 0
-    → Reads (Spelled v b) (MarksAfter v n b) NoRange old new None
+    → ReadsSpelling (Spelled v b) (MarksAfter v n b) NoRange old new None
 none_put_read v n b old rest new m from some none start = record {
   spelled = tt;
   read = λ k after f g e.
@@ -194,9 +194,9 @@ none_put_read v n b old rest new m from some none start = record {
 -- where no further range stands, and some stood before, they make the marks
 pub put_read : (v : Version) (n : ℕ) (b : Marks) (old rest new : List ℕ) (m : Marks) (from : ℕ)
     → SomePut v n b old rest m from → NoRange rest → (from ≡ 0 → ⊥) → new ≡ rest
-    → Reads (Spelled v b) (MarksAfter v n b) NoRange old new (Some m)
+    → ReadsSpelling (Spelled v b) (MarksAfter v n b) NoRange old new (Some m)
 put_read v n b old rest new m from some none begun is =
-    subst (λ x. Reads (Spelled v b) (MarksAfter v n b) NoRange old x (Some m)) (sym is) (record {
+    subst (λ x. ReadsSpelling (Spelled v b) (MarksAfter v n b) NoRange old x (Some m)) (sym is) (record {
       spelled = (
         after_all,
         all.spelled.1 ∙ ap (λ t. t ++ rest) (ap (flat_map (range_bytes v)) some.put.mixes
@@ -219,7 +219,7 @@ put_read v n b old rest new m from some none begun is =
     after_all : MarksAfter v n b m
     after_all = record { are = some.put.are; follow = some.put.follow; some = has_some some.put.from_is }
 
-    all : Reads (λ rs. flat_map (range_bytes v) rs) (Whole v n b) NoRange old rest (Some some.ranges)
+    all : ReadsSpelling (λ rs. flat_map (range_bytes v) rs) (Whole v n b) NoRange old rest (Some some.ranges)
     all = all_read old rest some.ranges some.along (m, after_all, some.put.mixes)
         (λ z zs after w g e. begins_line v z (flat_map (range_bytes v) zs ++ after) rest e none)
 

@@ -8,7 +8,7 @@ use Rattle.std.proofs.lemmas.List.Elements.{recursion_from_All}
 use Rattle.std.proofs.lemmas.Option.{same_Some}
 use Rattle.gob_bytes.proofs.Tables.{at_from_member, member_from_at}
 use Rattle.gob_bytes.specs.Tables.{Table, at_name}
-use Rattle.gob_bytes.specs.Words.{numbered}
+use Rattle.gob_bytes.specs.Words.{numbered_line}
 use Rattle.gob_plan.specs.declared.units.Counts.{Counts}
 use Rattle.gob_ledger.specs.Marks.{Marks}
 use Rattle.gob_ledger.specs.State.{State}
@@ -24,15 +24,15 @@ use Rattle.gob_state.proofs.Steps.{refused, second_missing}
 use Rattle.gob_state.specs.Counts.{AreTotals, NoBranch}
 use Rattle.gob_state.specs.Files.{CountFits}
 use Rattle.gob_state.specs.Parts.{IsPart, NoPart}
-use Rattle.gob_state.specs.Reads.{Reads}
+use Rattle.gob_state.specs.Reads.{ReadsSpelling}
 use Rattle.gob_state.specs.Versions.{AnyVersion, version_line, version_of}
 use Rattle.gob_state.specs.declared.version.Version.{Version as CodeVersion}
 use Rattle.gob_state.specs.declared.version.Version.TheVariants.{First, Second}
 use Rattle.gob_segments.proofs.Changed.{more_pipelines}
 use Rattle.gob_text.specs.Words.{GoesOnAtAll, TakesText}
 use Rattle.gob_segments.specs.Applied.{AreApart, AreParted, CountedAfter, IsNextRun, PartsAfter, PipelinesAfter}
-use Rattle.gob_segments.specs.Applied.{ReadsAsNoChange, RestAfter, StayAlone, TotalsAfter, changed_table, counted_text}
-use Rattle.gob_segments.specs.Applied.{front_text, later_text, rest_text, state_with}
+use Rattle.gob_segments.specs.Applied.{ReadsAsNoChange, RestAfter, StayAlone, TotalsAfter, changed_table, counted_text_over}
+use Rattle.gob_segments.specs.Applied.{front_text, later_text, rest_text_over, state_with}
 
 -- ---- versions
 
@@ -48,7 +48,7 @@ version_back version_2 = refl
 
 abbrev pub counted_pairing : (v : Version) (n least : ℕ) (t : Table Marks)
     → Pairing totals_text (TotalsAfter least) NoBranch (λ c u. parts_text v (changed_table t u))
-    (λ c u. PartsAfter v n t u) (counted_text v t) (CountedAfter v n least t) NoPart
+    (λ c u. PartsAfter v n t u) (counted_text_over v t) (CountedAfter v n least t) NoPart
 counted_pairing v n least t = record {
   to = λ c u. (c, u);
   first = λ z. z.0;
@@ -65,8 +65,8 @@ abbrev pub SmallAfter : Version → State → List (List ℕ) → Type 0
 SmallAfter v s qs = PipelinesAfter v s.pipelines qs × Small (length qs)
 
 abbrev pub rest_pairing : (v : Version) (s : State)
-    → Pairing (later_text v s.pipelines) (SmallAfter v s) GoesOnAtAll (λ qs z. counted_text v s.parts z)
-    (λ qs z. CountedAfter v (length qs) (length s.totals.branches) s.parts z) (rest_text v s) (RestAfter v s) NoPart
+    → Pairing (later_text v s.pipelines) (SmallAfter v s) GoesOnAtAll (λ qs z. counted_text_over v s.parts z)
+    (λ qs z. CountedAfter v (length qs) (length s.totals.branches) s.parts z) (rest_text_over v s) (RestAfter v s) NoPart
 rest_pairing v s = record {
   to = λ qs z. (qs, z);
   first = λ z. z.0;
@@ -80,14 +80,14 @@ rest_pairing v s = record {
 
 abbrev pub run_pairing : (v : Version) (run : ℕ)
     → Pairing {X = CodeVersion} (version_line (codes "gobblin-delta")) (λ w. version_of w ≡ v) GoesOnAtAll
-    (λ w n. numbered (codes "run") (n ∷ [])) (λ w n. IsNextRun run n) (front_text v) (IsNextRun run) GoesOnAtAll
+    (λ w n. numbered_line (codes "run") (n ∷ [])) (λ w n. IsNextRun run n) (front_text v) (IsNextRun run) GoesOnAtAll
 run_pairing v run = record {
   to = λ w n. n;
   first = λ n. code_of v;
   second = λ n. n;
   whole = λ n. refl;
-  spells = λ w n f g. ap (λ x. numbered (codes "gobblin-delta") (version_number x ∷ [])
-      ++ numbered (codes "run") (n ∷ [])) (sym f);
+  spells = λ w n f g. ap (λ x. numbered_line (codes "gobblin-delta") (version_number x ∷ [])
+      ++ numbered_line (codes "run") (n ∷ [])) (sym f);
   fits = λ w n f g. g;
   parts = λ n f. (version_back v, f);
   goes = λ w n after f g h. tt;
@@ -201,24 +201,24 @@ regrouped : (a b p t q e n : List ℕ) → (((a ++ b) ++ ((p ++ t) ++ q)) ++ e) 
 regrouped a b p t q e n = simp append_assoc
 
 change_parts : (v : Version) (s t : State) → delta_spelling v s t
-    ≡ front_text v t.run ++ (rest_text v s (rest_in t) ++ (codes "end" ++ 10 ∷ []))
+    ≡ front_text v t.run ++ (rest_text_over v s (rest_in t) ++ (codes "end" ++ 10 ∷ []))
 unfolding delta_spelling
 change_parts v s t =
-    regrouped (numbered (codes "gobblin-delta") (version_number v ∷ [])) (numbered (codes "run") (t.run ∷ []))
+    regrouped (numbered_line (codes "gobblin-delta") (version_number v ∷ [])) (numbered_line (codes "run") (t.run ∷ []))
     (new_pipelines v s t) (totals_text t.totals) (parts_text v (changed_parts s t)) (codes "end") (10 ∷ [])
     ∙ ap (λ x. front_text v t.run ++ ((x ++ (totals_text t.totals ++ parts_text v (changed_parts s t)))
     ++ (codes "end" ++ 10 ∷ []))) (later_is v s t)
 
 abbrev RunReads : Version → State → List ℕ → List ℕ → Option ℕ → Type 0
-RunReads v s bytes mid o = Reads (front_text v) (IsNextRun s.run) GoesOnAtAll bytes mid o
+RunReads v s bytes mid o = ReadsSpelling (front_text v) (IsNextRun s.run) GoesOnAtAll bytes mid o
 
 abbrev RestReads : Version → State → List ℕ → List ℕ → Option (List (List ℕ) × (Counts × Table Marks)) → Type 0
-RestReads v s mid rest o = Reads (rest_text v s) (RestAfter v s) NoPart mid rest o
+RestReads v s mid rest o = ReadsSpelling (rest_text_over v s) (RestAfter v s) NoPart mid rest o
 
 run_is : (v : Version) (s t : State) (bytes mid : List ℕ) (o : Option ℕ) → RunReads v s bytes mid o
     → ReadsAsChange v s bytes t
-    → (o ≡ Some t.run) × (mid ≡ rest_text v s (rest_in t) ++ (codes "end\n" ++ []))
-run_is v s t bytes mid o r is = r.read t.run (rest_text v s (rest_in t) ++ (codes "end\n" ++ []))
+    → (o ≡ Some t.run) × (mid ≡ rest_text_over v s (rest_in t) ++ (codes "end\n" ++ []))
+run_is v s t bytes mid o r is = r.read t.run (rest_text_over v s (rest_in t) ++ (codes "end\n" ++ []))
     (rest_after v s t is.leads).0 tt (is.spelled ∙ change_parts v s t)
 
 rest_is : (v : Version) (s t : State) (bytes mid rest : List ℕ) (o : Option ℕ)
@@ -257,7 +257,7 @@ pub change_read : (v : Version) (s : State) (bytes mid rest last : List ℕ) (ru
     → ReadsAsChange v s bytes (state_with run z)
 change_read v s bytes mid rest last run z b r read text taken done = record {
   spelled = r.spelled.1 ∙ ap (λ x. front_text v run ++ x)
-      (read.spelled.1 ∙ ap (λ x. rest_text v s z ++ x) (text.spelled taken ∙ ap (λ x. codes "end\n" ++ x) done))
+      (read.spelled.1 ∙ ap (λ x. rest_text_over v s z ++ x) (text.spelled taken ∙ ap (λ x. codes "end\n" ++ x) done))
       ∙ sym (change_parts v s (state_with run z));
   leads = leads_from v s run z r.spelled.0 read.spelled.0;
 }
@@ -265,13 +265,13 @@ change_read v s bytes mid rest last run z b r read text taken done = record {
 -- ---- the first two lines
 
 abbrev VersionReads : List ℕ → List ℕ → Option CodeVersion → Type 0
-VersionReads old mid o = Reads (version_line (codes "gobblin-delta")) AnyVersion GoesOnAtAll old mid o
+VersionReads old mid o = ReadsSpelling (version_line (codes "gobblin-delta")) AnyVersion GoesOnAtAll old mid o
 
 abbrev NumberReads : List ℕ → List ℕ → Option ℕ → Type 0
-NumberReads mid new o = Reads (λ n. numbered (codes "run") (n ∷ [])) (λ n. n < 2 ^ 64) GoesOnAtAll mid new o
+NumberReads mid new o = ReadsSpelling (λ n. numbered_line (codes "run") (n ∷ [])) (λ n. n < 2 ^ 64) GoesOnAtAll mid new o
 
 abbrev FrontReads : CodeVersion → ℕ → List ℕ → List ℕ → Option ℕ → Type 0
-FrontReads w run old new o = Reads (front_text (version_of w)) (IsNextRun run) GoesOnAtAll old new o
+FrontReads w run old new o = ReadsSpelling (front_text (version_of w)) (IsNextRun run) GoesOnAtAll old new o
 
 one_code : (a b : CodeVersion) → version_of a ≡ version_of b → a ≡ b
 one_code First First e = refl
@@ -296,7 +296,7 @@ other_version w told run old mid o r is apart =
 
 version_there : (w told : CodeVersion) (old mid : List ℕ) (o : Option CodeVersion) → VersionReads old mid o
     → o ≡ Some told → told ≡ w
-    → Reads (version_line (codes "gobblin-delta")) (λ x. version_of x ≡ version_of w) GoesOnAtAll old mid (Some told)
+    → ReadsSpelling (version_line (codes "gobblin-delta")) (λ x. version_of x ≡ version_of w) GoesOnAtAll old mid (Some told)
 version_there w told old mid o r is same = passed old mid told (is_there old mid o told r is) (λ x h. tt)
     (ap version_of same)
 
@@ -328,17 +328,17 @@ run_there w told run next old mid new o q r is same read there behind =
 -- ---- totals and partitions
 
 abbrev TotalsReads : List ℕ → List ℕ → Option Counts → Type 0
-TotalsReads old mid o = Reads totals_text AreTotals NoBranch old mid o
+TotalsReads old mid o = ReadsSpelling totals_text AreTotals NoBranch old mid o
 
 pub totals_missing : (v : Version) (n least : ℕ) (t : Table Marks) (old mid : List ℕ) (o : Option Counts)
-    → TotalsReads old mid o → o ≡ None → Reads (counted_text v t) (CountedAfter v n least t) NoPart old mid None
+    → TotalsReads old mid o → o ≡ None → ReadsSpelling (counted_text_over v t) (CountedAfter v n least t) NoPart old mid None
 totals_missing v n least t old mid o r none =
     first_missing (counted_pairing v n least t) old mid mid None None
     (not_even old mid mid o None r (λ c h. h.0) none refl) refl refl
 
 pub too_few : (v : Version) (n least : ℕ) (t : Table Marks) (old mid : List ℕ) (o : Option Counts) (c : Counts)
     → TotalsReads old mid o → o ≡ Some c → length c.branches < least
-    → Reads (counted_text v t) (CountedAfter v n least t) NoPart old mid None
+    → ReadsSpelling (counted_text_over v t) (CountedAfter v n least t) NoPart old mid None
 too_few v n least t old mid o c r is few =
     first_missing (counted_pairing v n least t) old mid mid None None
     (refused old mid mid c None (is_there old mid o c r is) (λ d h. h.0)
@@ -346,17 +346,17 @@ too_few v n least t old mid o c r is few =
     refl refl
 
 totals_there : (least : ℕ) (old mid : List ℕ) (o : Option Counts) (c : Counts) → TotalsReads old mid o → o ≡ Some c
-    → least ≤ length c.branches → Reads totals_text (TotalsAfter least) NoBranch old mid (Some c)
+    → least ≤ length c.branches → ReadsSpelling totals_text (TotalsAfter least) NoBranch old mid (Some c)
 totals_there least old mid o c r is many =
     let there = is_there old mid o c r is in passed old mid c there (λ d h. h.0) (there.spelled.0, many)
 
 abbrev ChangedReads : Version → ℕ → Table Marks → List ℕ → List ℕ → Option (Table Marks) → Type 0
-ChangedReads v n t mid new q = Reads (λ u. parts_text v (changed_table t u)) (PartsAfter v n t) NoPart mid new q
+ChangedReads v n t mid new q = ReadsSpelling (λ u. parts_text v (changed_table t u)) (PartsAfter v n t) NoPart mid new q
 
 pub changes_missing : (v : Version) (n least : ℕ) (t : Table Marks) (old mid new : List ℕ) (o : Option Counts)
     (c : Counts)
     (q : Option (Table Marks)) → TotalsReads old mid o → o ≡ Some c → least ≤ length c.branches
-    → ChangedReads v n t mid new q → q ≡ None → Reads (counted_text v t) (CountedAfter v n least t) NoPart old new None
+    → ChangedReads v n t mid new q → q ≡ None → ReadsSpelling (counted_text_over v t) (CountedAfter v n least t) NoPart old new None
 changes_missing v n least t old mid new o c q r is many read none =
     second_missing (counted_pairing v n least t) old mid new c None None (totals_there least old mid o c r is many)
     (is_missing mid new q read none) refl refl
@@ -365,7 +365,7 @@ pub counted_there : (v : Version) (n least : ℕ) (t u : Table Marks) (old mid n
     (c : Counts)
     (q : Option (Table Marks)) → TotalsReads old mid o → o ≡ Some c → least ≤ length c.branches
     → ChangedReads v n t mid new q → q ≡ Some u
-    → Reads (counted_text v t) (CountedAfter v n least t) NoPart old new (Some (c, u))
+    → ReadsSpelling (counted_text_over v t) (CountedAfter v n least t) NoPart old new (Some (c, u))
 counted_there v n least t u old mid new o c q r is many read there =
     both_read (counted_pairing v n least t) old mid new c u (Some u) (Some (c, u))
     (totals_there least old mid o c r is many)
@@ -377,20 +377,20 @@ pub apart_of : (s : State) → Proper s → AreApart s.pipelines
 apart_of s proper = (recursion_from_All IsKeptPipeline s.pipelines proper.pipelines, proper.differ)
 
 abbrev LaterReads : Version → State → List ℕ → List ℕ → Option (List (List ℕ)) → Type 0
-LaterReads v s old mid o = Reads (later_text v s.pipelines) (PipelinesAfter v s.pipelines) GoesOnAtAll old mid o
+LaterReads v s old mid o = ReadsSpelling (later_text v s.pipelines) (PipelinesAfter v s.pipelines) GoesOnAtAll old mid o
 
 later_there : (v : Version) (s : State) (old mid : List ℕ) (o : Option (List (List ℕ))) (qs : List (List ℕ)) (n : ℕ)
     → LaterReads v s old mid o → o ≡ Some qs → n ≡ length qs → n < 2 ^ 64
-    → Reads (later_text v s.pipelines) (SmallAfter v s) GoesOnAtAll old mid (Some qs)
+    → ReadsSpelling (later_text v s.pipelines) (SmallAfter v s) GoesOnAtAll old mid (Some qs)
 later_there v s old mid o qs n r is count small =
     let there = is_there old mid o qs r is in
     passed old mid qs there (λ d h. h.0) (there.spelled.0, omega (arith, count, small))
 
 abbrev CountedReads : Version → State → ℕ → ℕ → List ℕ → List ℕ → Option (Counts × Table Marks) → Type 0
-CountedReads v s n least mid new q = Reads (counted_text v s.parts) (CountedAfter v n least s.parts) NoPart mid new q
+CountedReads v s n least mid new q = ReadsSpelling (counted_text_over v s.parts) (CountedAfter v n least s.parts) NoPart mid new q
 
 pub later_missing : (v : Version) (s : State) (old mid : List ℕ) (o : Option (List (List ℕ))) → LaterReads v s old mid o
-    → o ≡ None → Reads (rest_text v s) (RestAfter v s) NoPart old mid None
+    → o ≡ None → ReadsSpelling (rest_text_over v s) (RestAfter v s) NoPart old mid None
 later_missing v s old mid o r none =
     first_missing (rest_pairing v s) old mid mid None None (not_even old mid mid o None r (λ c h. h.0) none refl) refl
     refl
@@ -399,7 +399,7 @@ pub counted_missing : (v : Version) (s : State) (old mid new : List ℕ) (o : Op
     (n least : ℕ) (q : Option (Counts × Table Marks)) → LaterReads v s old mid o → o ≡ Some qs → n ≡ length qs
     → n < 2 ^ 64
     → least ≡ length s.totals.branches → CountedReads v s n least mid new q → q ≡ None
-    → Reads (rest_text v s) (RestAfter v s) NoPart old new None
+    → ReadsSpelling (rest_text_over v s) (RestAfter v s) NoPart old new None
 counted_missing v s old mid new o qs n least q r is count small few read none =
     second_missing (rest_pairing v s) old mid new qs None None (later_there v s old mid o qs n r is count small)
     (is_missing mid new q (subst (λ k. CountedReads v s k (length s.totals.branches) mid new q) count
@@ -410,7 +410,7 @@ pub rest_there : (v : Version) (s : State) (old mid new : List ℕ) (o : Option 
     → o ≡ Some qs
     → n ≡ length qs → n < 2 ^ 64
     → least ≡ length s.totals.branches → CountedReads v s n least mid new q → q ≡ Some z
-    → Reads (rest_text v s) (RestAfter v s) NoPart old new (Some (qs, z))
+    → ReadsSpelling (rest_text_over v s) (RestAfter v s) NoPart old new (Some (qs, z))
 rest_there v s old mid new o qs n least q z r is count small few read there =
     both_read (rest_pairing v s) old mid new qs z (Some z) (Some (qs, z))
     (later_there v s old mid o qs n r is count small)
@@ -426,7 +426,7 @@ later_is_after v s old mid o qs r is = (is_there old mid o qs r is).spelled.0
 
 pub run_reads : (v : Version) (s : State) (text bytes mid : List ℕ) (run : ℕ) (o : Option ℕ) → text ≡ bytes
     → run ≡ s.run
-    → Reads (front_text v) (IsNextRun run) GoesOnAtAll text mid o → RunReads v s bytes mid o
+    → ReadsSpelling (front_text v) (IsNextRun run) GoesOnAtAll text mid o → RunReads v s bytes mid o
 run_reads v s text bytes mid run o same level r =
-    subst (λ x. Reads (front_text v) (IsNextRun s.run) GoesOnAtAll x mid o) same
-    (subst (λ n. Reads (front_text v) (IsNextRun n) GoesOnAtAll text mid o) level r)
+    subst (λ x. ReadsSpelling (front_text v) (IsNextRun s.run) GoesOnAtAll x mid o) same
+    (subst (λ n. ReadsSpelling (front_text v) (IsNextRun n) GoesOnAtAll text mid o) level r)

@@ -8,7 +8,7 @@ use Rattle.std.specs.Str.{bytes_eq}
 use Rattle.gob_plan.specs.declared.units.Counts.{Counts}
 use Rattle.gob_state.specs.Counts.{AreTotals}
 use Rattle.gob_bytes.specs.Tables.{Table, at_name, name_cmp, names_of, IsInByteOrder}
-use Rattle.gob_bytes.specs.Words.{numbered}
+use Rattle.gob_bytes.specs.Words.{numbered_line}
 use Rattle.gob_ledger.specs.Marks as marks
 use Rattle.gob_ledger.specs.Marks.{Marks, Span}
 use Rattle.gob_ledger.specs.Next.{with_done, with_owed}
@@ -37,10 +37,10 @@ CanPut from n m (Done d) = (from ≤ d.span.lo) × (d.span.lo < d.span.hi) × (d
 CanPut from n m (Open s) = (s.lo ≡ m.next) × (s.lo < s.hi)
 
 -- the marks with this range: an owed one is done, or it comes behind the others
-abbrev pub with_line : RangeLine → Marks → Marks
-with_line (Done d) m = if nat_lt d.span.lo m.next then with_done d.pipeline d.span m
+abbrev pub with_range_line : RangeLine → Marks → Marks
+with_range_line (Done d) m = if nat_lt d.span.lo m.next then with_done d.pipeline d.span m
     else with_new_done d.pipeline d.span m
-with_line (Open s) m = with_owed s m
+with_range_line (Open s) m = with_owed s m
 
 -- ---- a partition
 
@@ -86,7 +86,7 @@ ReadsAsNoChange v s bytes = (t : State) → ReadsAsChange v s bytes t → ⊥
 
 -- the first line of a change, and its run's
 abbrev pub front_text : Version → ℕ → List ℕ
-front_text v n = numbered (codes "gobblin-delta") (version_number v ∷ []) ++ numbered (codes "run") (n ∷ [])
+front_text v n = numbered_line (codes "gobblin-delta") (version_number v ∷ []) ++ numbered_line (codes "run") (n ∷ [])
 
 abbrev pub IsNextRun : ℕ → ℕ → Type 0
 IsNextRun run n = (n ≡ run + 1) × Small n
@@ -112,8 +112,8 @@ pub record PipelinesAfter (v : Version) (before after : List (List ℕ)) : Type 
   pub alone : StayAlone v before after
 
 -- totals and partitions, over the table before
-abbrev pub counted_text : Version → Table Marks → Counts × Table Marks → List ℕ
-counted_text v t z = totals_text z.0 ++ parts_text v (changed_table t z.1)
+abbrev pub counted_text_over : Version → Table Marks → Counts × Table Marks → List ℕ
+counted_text_over v t z = totals_text z.0 ++ parts_text v (changed_table t z.1)
 
 -- totals of so many branches at least
 abbrev pub TotalsAfter : ℕ → Counts → Type 0
@@ -123,8 +123,8 @@ abbrev pub CountedAfter : Version → ℕ → ℕ → Table Marks → Counts × 
 CountedAfter v n least t z = TotalsAfter least z.0 × PartsAfter v n t z.1
 
 -- all between the first two lines and the last one
-abbrev pub rest_text : Version → State → List (List ℕ) × (Counts × Table Marks) → List ℕ
-rest_text v s z = later_text v s.pipelines z.0 ++ counted_text v s.parts z.1
+abbrev pub rest_text_over : Version → State → List (List ℕ) × (Counts × Table Marks) → List ℕ
+rest_text_over v s z = later_text v s.pipelines z.0 ++ counted_text_over v s.parts z.1
 
 abbrev pub RestAfter : Version → State → List (List ℕ) × (Counts × Table Marks) → Type 0
 RestAfter v s z = (PipelinesAfter v s.pipelines z.0 × Small (length z.0))

@@ -5,9 +5,9 @@ ghost use Rattle.gob_bytes.specs.Tables.{IsInByteOrder, names_of};
 ghost use Rattle.gob_ledger.specs.Delta.{ReadsAsChange};
 ghost use Rattle.gob_ledger.specs.Spelling.{Proper};
 ghost use Rattle.gob_segments.specs.Applied.{AreParted, CountedAfter, IsNextRun, ReadsAsNoChange, RestAfter};
-ghost use Rattle.gob_segments.specs.Applied.{counted_text, front_text, rest_text, state_with};
+ghost use Rattle.gob_segments.specs.Applied.{counted_text_over, front_text, rest_text_over, state_with};
 ghost use Rattle.gob_state.specs.Parts.{NoPart};
-ghost use Rattle.gob_state.specs.Reads.{Reads};
+ghost use Rattle.gob_state.specs.Reads.{ReadsSpelling};
 ghost use Rattle.gob_state.specs.Versions.{version_of};
 ghost use Rattle.gob_text.specs.Words.{GoesOnAtAll};
 
@@ -63,7 +63,7 @@ fn state_with(run: u64, rest: (List<Text>, (Counts, MarkTable))) -> State
 
 // The first line, and that of the run behind this one.
 fn take_run(text: &mut Words, version: Version, run: u64) -> Option<u64>
-    ensures { Reads (front_text (version_of version)) (IsNextRun run) GoesOnAtAll text.old text.new result }
+    ensures { ReadsSpelling (front_text (version_of version)) (IsNextRun run) GoesOnAtAll text.old text.new result }
 {
     let Some(told) = take_version(text, b"gobblin-delta") else {
         return None;
@@ -101,7 +101,7 @@ fn take_rest(
 ) -> Result<Option<(List<Text>, (Counts, MarkTable))>, NoMemory>
     requires { Proper state }
     ensures { IfOk result (λ taken.
-        Reads (rest_text (version_of version) state) (RestAfter (version_of version) state) NoPart
+        ReadsSpelling (rest_text_over (version_of version) state) (RestAfter (version_of version) state) NoPart
         text.old text.new taken) }
 {
     let least = state.totals.branches.len();
@@ -127,7 +127,7 @@ fn take_counted(
     requires parted { AreParted (version_of version) pipelines before }
     requires names { IsInByteOrder (names_of before) }
     ensures { IfOk result (λ taken.
-        Reads (counted_text (version_of version) before) (CountedAfter (version_of version) pipelines least before) NoPart
+        ReadsSpelling (counted_text_over (version_of version) before) (CountedAfter (version_of version) pipelines least before) NoPart
         text.old text.new taken) }
 {
     let Some(totals) = take_totals(alloc, text)? else {

@@ -8,7 +8,7 @@ ghost use Rattle.gob_marks.specs.Changed.{marks_in};
 ghost use Rattle.gob_segments.specs.Applied.{AreParted, IsChange, PartsAfter, change_rest, changed_table};
 ghost use Rattle.gob_state.specs.Parts.{NoPart};
 ghost use Rattle.gob_state.specs.Ranges.{NoRange};
-ghost use Rattle.gob_state.specs.Reads.{Reads};
+ghost use Rattle.gob_state.specs.Reads.{ReadsSpelling};
 ghost use Rattle.gob_state.specs.Versions.{version_of};
 
 use crate::ranges::take_changed;
@@ -30,7 +30,7 @@ pub(crate) fn take_changes(
     requires parted { AreParted (version_of version) pipelines before }
     requires names { IsInByteOrder (names_of before) }
     ensures { IfOk result (λ taken.
-        Reads (λ after. parts_text (version_of version) (changed_table before after))
+        ReadsSpelling (λ after. parts_text (version_of version) (changed_table before after))
         (PartsAfter (version_of version) pipelines before) NoPart text.old text.new taken) }
 {
     let mut table = before;
@@ -64,7 +64,7 @@ fn take_change(
 ) -> Result<Option<(Text, Marks)>, NoMemory>
     requires { AreParted (version_of version) pipelines table.now }
     ensures { IfOk result (λ taken.
-        Reads (change_rest (version_of version) table.now)
+        ReadsSpelling (change_rest (version_of version) table.now)
         (IsChange (version_of version) pipelines table.now last.now) NoRange text.old text.new taken) }
 {
     let Some((name, next)) = take_head(alloc, text)? else {

@@ -3,7 +3,7 @@
 ghost use Rattle.std.specs.Prelude.{◌≡◌, ℕ, List, IfOk};
 ghost use Rattle.gob_ledger.specs.Spelling.{version_1, version_2};
 ghost use Rattle.gob_segments.specs.Applied.{AreApart, PipelinesAfter, later_text};
-ghost use Rattle.gob_state.specs.Reads.{Reads};
+ghost use Rattle.gob_state.specs.Reads.{ReadsSpelling};
 ghost use Rattle.gob_state.specs.Versions.{version_of};
 ghost use Rattle.gob_text.specs.Words.{GoesOnAtAll};
 
@@ -21,7 +21,7 @@ pub(crate) fn take_later(
 ) -> Result<Option<List<Text>>, NoMemory>
     requires { AreApart known }
     ensures { IfOk result (λ taken.
-        Reads (later_text (version_of version) known) (PipelinesAfter (version_of version) known) GoesOnAtAll
+        ReadsSpelling (later_text (version_of version) known) (PipelinesAfter (version_of version) known) GoesOnAtAll
         text.old text.new taken) }
 {
     match version {
@@ -35,7 +35,7 @@ pub(crate) fn take_later(
 
 fn one_alone(known: List<Text>) -> Option<List<Text>>
     requires { AreApart known }
-    ensures { (text : List ℕ) → Reads (later_text version_1 known) (PipelinesAfter version_1 known) GoesOnAtAll
+    ensures { (text : List ℕ) → ReadsSpelling (later_text version_1 known) (PipelinesAfter version_1 known) GoesOnAtAll
         text text result }
 {
     if known.len() != 1 {
@@ -52,7 +52,7 @@ fn take_one_more(
 ) -> Result<Option<List<Text>>, NoMemory>
     requires { AreApart known }
     ensures { IfOk result (λ taken.
-        Reads (later_text version_2 known) (PipelinesAfter version_2 known) GoesOnAtAll text.old text.new taken) }
+        ReadsSpelling (later_text version_2 known) (PipelinesAfter version_2 known) GoesOnAtAll text.old text.new taken) }
 {
     let Some(count) = take_numbered(text, b"pipelines") else {
         return Ok(None);

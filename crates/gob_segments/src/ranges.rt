@@ -2,9 +2,9 @@
 
 ghost use Rattle.std.specs.Prelude.{◌≡◌, ◌+◌, ◌<◌, IfOk, IsFalse, IsTrue};
 ghost use Rattle.gob_ledger.specs.Delta.{changed_marks};
-ghost use Rattle.gob_segments.specs.Applied.{CanPut, MarksAfter, begin_of, with_line};
+ghost use Rattle.gob_segments.specs.Applied.{CanPut, MarksAfter, begin_of, with_range_line};
 ghost use Rattle.gob_state.specs.Ranges.{AreMarks, NoRange, ranges_text};
-ghost use Rattle.gob_state.specs.Reads.{Reads};
+ghost use Rattle.gob_state.specs.Reads.{ReadsSpelling};
 ghost use Rattle.gob_state.specs.Versions.{version_of};
 ghost use Rattle.gob_state.specs.declared.ranges.RangeLine.TheVariants as range_line;
 
@@ -22,7 +22,7 @@ pub(crate) fn take_changed(
 ) -> Result<Option<Marks>, NoMemory>
     requires { AreMarks (version_of version) pipelines before }
     ensures { IfOk result (λ taken.
-        Reads (λ m. ranges_text (version_of version) (changed_marks before m))
+        ReadsSpelling (λ m. ranges_text (version_of version) (changed_marks before m))
         (MarksAfter (version_of version) pipelines before) NoRange text.old text.new taken) }
 {
     let mut marks = before;
@@ -50,7 +50,7 @@ fn put_range(
     pipelines: u64,
 ) -> Result<bool, NoMemory>
     ensures put { IfOk result (λ put. IsTrue put
-        → CanPut from pipelines marks.old line × (marks.new ≡ with_line line marks.old)) }
+        → CanPut from pipelines marks.old line × (marks.new ≡ with_range_line line marks.old)) }
     ensures refused { IfOk result (λ put. IsFalse put → CanPut from pipelines marks.old line → ⊥) }
 {
     match line {
@@ -67,7 +67,7 @@ fn put_range(
 
 fn put_done(marks: &mut Marks, done: Done, from: u64, pipelines: u64) -> Result<bool, NoMemory>
     ensures put { IfOk result (λ put. IsTrue put
-        → CanPut from pipelines marks.old (range_line.Done done) × (marks.new ≡ with_line (range_line.Done done) marks.old)) }
+        → CanPut from pipelines marks.old (range_line.Done done) × (marks.new ≡ with_range_line (range_line.Done done) marks.old)) }
     ensures refused { IfOk result (λ put. IsFalse put → CanPut from pipelines marks.old (range_line.Done done) → ⊥) }
 {
     let range = done.range;

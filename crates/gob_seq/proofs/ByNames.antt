@@ -8,7 +8,7 @@ use Rattle.gob_device.proofs.Trail.{along_map, maps_change}
 use Rattle.gob_recovery.specs.Commits.{OnlyBelow, staged_sequence}
 use Rattle.gob_recovery.specs.Sequence.{CommitStep, sequence_text, WellFormed}
 use Rattle.gob_recovery.proofs.Commits.{sequence_staged}
-use Rattle.gob_seq.specs.Maps.{Becomes, CanFinish, EndsAs, Finishes, GoesOn, SettlesUnstaged, after_write, finished}
+use Rattle.gob_seq.specs.Maps.{EndsBy, CanFinish, EndsAs, Finishes, SettlingGoesOn, SettlesUnstaged, after_write, finished_files}
 use Rattle.gob_seq.proofs.GoingOver.{opened_map}
 use Rattle.gob_seq.proofs.Named.{finishes_below, sequence_below, staged_below}
 use Rattle.gob_seq.proofs.Resettled.{finish_along, finish_becomes}
@@ -71,9 +71,9 @@ finish_maps job name steps ss {old} {new} is same a =
 
 pub finish_ends : (job name : List ℕ) (steps ss : List CommitStep) {old new : Option Disk} → name ≡ sequence_name job
     → ss ≡ steps
-    → AddsMaps (EndsAs (finished name ss)) old new → AddsMaps (EndsAs (finished (sequence_name job) steps)) old new
+    → AddsMaps (EndsAs (finished_files name ss)) old new → AddsMaps (EndsAs (finished_files (sequence_name job) steps)) old new
 finish_ends job name steps ss {old} {new} is same a =
-    subst (λ (p : List ℕ × List CommitStep). AddsMaps (EndsAs (finished p.0 p.1)) old new) (λ i. (is i, same i)) a
+    subst (λ (p : List ℕ × List CommitStep). AddsMaps (EndsAs (finished_files p.0 p.1)) old new) (λ i. (is i, same i)) a
 
 pub finish_below : (job : List ℕ) (steps : List CommitStep) {old new : Option Disk} → WellFormed job steps
     → Along (Finishes (sequence_name job) steps) old new → Along (OnlyBelow (under job [])) old new
@@ -86,7 +86,7 @@ finish_below job steps fits a =
 pub done_goes : (job name : List ℕ) (steps ss : List CommitStep) {old between new : Option Disk}
     → name ≡ sequence_name job
     → ss ≡ steps → between ≡ old → IfSome old (λ d. CanFinish job d.files steps) → Along (Finishes name ss) between new
-    → Along (GoesOn job) old new
+    → Along (SettlingGoesOn job) old new
 done_goes job name steps ss {old} {between} {new} is same still can a =
     finish_along job steps can
     (subst (λ o. Along (Finishes (sequence_name job) steps) o new) still (finish_maps job name steps ss is same a))
@@ -94,11 +94,11 @@ done_goes job name steps ss {old} {between} {new} is same still can a =
 pub done_becomes : (job name : List ℕ) (steps ss : List CommitStep) {old between new : Option Disk}
     → name ≡ sequence_name job
     → ss ≡ steps → between ≡ old → IfSome old (λ d. CanFinish job d.files steps)
-    → AddsMaps (EndsAs (finished name ss)) between new
-    → AddsMaps (Becomes (SettlesUnstaged job)) old new
+    → AddsMaps (EndsAs (finished_files name ss)) between new
+    → AddsMaps (EndsBy (SettlesUnstaged job)) old new
 done_becomes job name steps ss {old} {between} {new} is same still can a =
     finish_becomes job steps can
-    (subst (λ o. AddsMaps (EndsAs (finished (sequence_name job) steps)) o new) still
+    (subst (λ o. AddsMaps (EndsAs (finished_files (sequence_name job) steps)) o new) still
     (finish_ends job name steps ss is same a))
 
 pub done_below : (job name : List ℕ) (steps ss : List CommitStep) {old between new : Option Disk}

@@ -13,7 +13,7 @@ use Rattle.gob_recovery.specs.Settle.{do_steps, without_staging}
 use Rattle.gob_recovery.proofs.Again.{Off, same, steps_off}
 use Rattle.gob_recovery.proofs.Commits.{apart_below}
 use Rattle.gob_recovery.proofs.Opened.{steps_still}
-use Rattle.gob_seq.specs.Maps.{EndsAs, IsFront}
+use Rattle.gob_seq.specs.Maps.{EndsAs, FrontIsDone}
 use Rattle.gob_seq.proofs.Trails.{along_known, if_both, maps_known}
 
 gone_at : (name x : List ℕ) (m : Files) → bytes_eq name x ≡ true → after_remove x m name ≡ None
@@ -57,7 +57,7 @@ all_off folder (x ∷ xs) name below out = (
 )
 
 front_below : (folder : List ℕ) (names : List (List ℕ)) (m n : Files) → AreBelow folder names
-    → IsFront (map remove names) m n
+    → FrontIsDone (map remove names) m n
     → OnlyBelow folder m n
 front_below folder names m n below front = λ name out.
     ap (λ (x : Files). x name) front.1 ∙ steps_off (map remove names) front.0 m name
@@ -92,9 +92,9 @@ cleaned job names m listing = λ i name. each name i
 -- ---- the calls that do it
 
 pub cleans_below : (job : List ℕ) (names : List (List ℕ)) {old new : Option Disk}
-    → IfSome old (λ d. IsListing (staging job) d.files names) → Along (IsFront (map remove names)) old new
+    → IfSome old (λ d. IsListing (staging job) d.files names) → Along (FrontIsDone (map remove names)) old new
     → Along (OnlyBelow (staging job)) old new
-cleans_below job names {old} listing a = along_known (IsFront (map remove names)) (OnlyBelow (staging job))
+cleans_below job names {old} listing a = along_known (FrontIsDone (map remove names)) (OnlyBelow (staging job))
     (if_both old (λ d l n f. front_below (staging job) names d.files n (λ name h. ((l.exact name).0 h).0) f) listing) a
 
 pub cleans_all : (job : List ℕ) (names : List (List ℕ)) {old new : Option Disk}
@@ -106,11 +106,11 @@ cleans_all job names {old} listing a = maps_known (if_both old (λ d l xs p. p �
 pub names_below : (job folder : List ℕ) (names given : List (List ℕ)) {old between new : Option Disk}
     → folder ≡ staging job
     → given ≡ names → between ≡ old → IfSome old (λ d. IsListing folder d.files names)
-    → Along (IsFront (map remove given)) between new → Along (OnlyBelow (staging job)) old new
+    → Along (FrontIsDone (map remove given)) between new → Along (OnlyBelow (staging job)) old new
 names_below job folder names given {old} {between} {new} at is same listing a =
     cleans_below job names (if_both old (λ d l. subst (λ f. IsListing f d.files names) at l) listing)
-    (subst (λ o. Along (IsFront (map remove names)) o new) same
-    (subst (λ t. Along (IsFront (map remove t)) between new) is a))
+    (subst (λ o. Along (FrontIsDone (map remove names)) o new) same
+    (subst (λ t. Along (FrontIsDone (map remove t)) between new) is a))
 
 pub names_gone : (job folder : List ℕ) (names given : List (List ℕ)) {old between new : Option Disk}
     → folder ≡ staging job

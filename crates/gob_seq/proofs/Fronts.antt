@@ -10,7 +10,7 @@ use Rattle.gob_device.specs.Disk.{after_remove, after_rename, last_map}
 use Rattle.gob_device.proofs.Trail.{each-append, each-map, maps_map, maps_nothing, maps_then, last-append}
 use Rattle.gob_recovery.specs.Sequence.{CommitStep, move}
 use Rattle.gob_recovery.specs.Settle.{do_step, do_steps, moved_where}
-use Rattle.gob_seq.specs.Maps.{EndsAs, Finishes, IsFront}
+use Rattle.gob_seq.specs.Maps.{EndsAs, Finishes, FrontIsDone}
 use Rattle.gob_seq.proofs.Trails.{along_known, along_whole, if_both, maps_both, maps_known}
 
 -- one element more of a list of steps
@@ -27,7 +27,7 @@ do_more (t ∷ ss) s m = do_more ss s (do_step t m)
 
 -- so many of the steps are done in the map that stands
 abbrev pub DoneUpTo : List CommitStep → ℕ → Files → List Files → Type 0
-DoneUpTo steps i m xs = EachOf (IsFront steps m) xs × (last_map m xs ≡ do_steps (take i steps) m)
+DoneUpTo steps i m xs = EachOf (FrontIsDone steps m) xs × (last_map m xs ≡ do_steps (take i steps) m)
 
 pub none_done : (steps : List CommitStep) (o : Option Disk) → AddsMaps (DoneUpTo steps 0) o o
 unfolding do_steps
@@ -41,7 +41,7 @@ step_done steps i s m last more is =
 
 step_front : (steps : List CommitStep) (i : ℕ) (s : CommitStep) (m last n : Files)
     → take (suc i) steps ≡ take i steps ++ s ∷ [] → last ≡ do_steps (take i steps) m → Whole (do_step s) last n
-    → IsFront steps m n
+    → FrontIsDone steps m n
 step_front steps i s m last n more is whole = ⊎_elim
     (λ e. (i, e ∙ is))
     (λ e. (suc i, e ∙ step_done steps i s m last more is))
@@ -49,10 +49,10 @@ step_front steps i s m last n more is whole = ⊎_elim
 
 pub step_left : (steps : List CommitStep) (i : ℕ) (s : CommitStep) {old between new : Option Disk}
     → take (suc i) steps ≡ take i steps ++ s ∷ [] → AddsMaps (DoneUpTo steps i) old between
-    → Along (Whole (do_step s)) between new → Along (IsFront steps) old new
+    → Along (Whole (do_step s)) between new → Along (FrontIsDone steps) old new
 step_left steps i s more a b = maps_then
-    (λ m xs ys p q. each-append (IsFront steps m) xs ys p.0
-    (each-map (Whole (do_step s) (last_map m xs)) (IsFront steps m) ys
+    (λ m xs ys p q. each-append (FrontIsDone steps m) xs ys p.0
+    (each-map (Whole (do_step s) (last_map m xs)) (FrontIsDone steps m) ys
     (λ n w. step_front steps i s m (last_map m xs) n more p.1 w) q))
     a b
 
@@ -72,7 +72,7 @@ one_done steps i s {old} {between} {new} more a b ends =
     both_done = maps_both (step_left steps i s more a b) at_last
 
 pub done_front : (steps : List CommitStep) (i : ℕ) {old new : Option Disk} → AddsMaps (DoneUpTo steps i) old new
-    → Along (IsFront steps) old new
+    → Along (FrontIsDone steps) old new
 done_front steps i a = maps_map (λ m xs p. p.0) a
 
 pub done_all : (steps : List CommitStep) (i : ℕ) {old new : Option Disk} → take i steps ≡ steps
@@ -103,11 +103,11 @@ moved_ends source target {old} there a =
 -- ---- the steps, and then the sequence
 
 pub finish_left : (name : List ℕ) (steps : List CommitStep) {old between new : Option Disk}
-    → Along (IsFront steps) old between → AddsMaps (EndsAs (do_steps steps)) old between
+    → Along (FrontIsDone steps) old between → AddsMaps (EndsAs (do_steps steps)) old between
     → Along (Whole (after_remove name)) between new → Along (Finishes name steps) old new
 finish_left name steps a ends b = maps_then
     (λ m xs ys p q. each-append (Finishes name steps m) xs ys
-    (each-map (IsFront steps m) (Finishes name steps m) xs (λ n f. inl f) p.0)
+    (each-map (FrontIsDone steps m) (Finishes name steps m) xs (λ n f. inl f) p.0)
     (each-map (Whole (after_remove name) (last_map m xs)) (Finishes name steps m) ys
     (λ n w. ⊎_elim
     (λ e. inl (length steps, e ∙ (p.1 ∙ ap (λ t. do_steps t m) (sym (take_all (length steps) steps (omega arith))))))

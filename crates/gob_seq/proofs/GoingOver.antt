@@ -18,7 +18,7 @@ use Rattle.gob_recovery.specs.Settle.{do_steps, without_staging}
 use Rattle.gob_recovery.proofs.Commits.{CanCommit, Opens, apart_below, below_same, closed_settles, closes_is}
 use Rattle.gob_recovery.proofs.Commits.{renamed_opens, sequence_staged, sequences_apart, staged_settles, steps_go}
 use Rattle.gob_recovery.proofs.Commits.{without_alike, written}
-use Rattle.gob_seq.specs.Maps.{EndsAs, Finishes, GoesOver, IsReady, SettlesWell, after_write, finished}
+use Rattle.gob_seq.specs.Maps.{EndsAs, Finishes, GoesOver, IsReady, SettlesWell, after_write, finished_files}
 use Rattle.gob_seq.proofs.Trails.{if_both, maps_both, maps_known}
 
 pub can_commit : (job : List ℕ) (steps : List CommitStep) (m : Files) → WellFormed job steps → IsReady job steps m
@@ -71,9 +71,9 @@ after_well job steps m n can below =
     let both = closed_settles job steps m n can below in record { settles = both.0; images = both.1 }
 
 pub finish_part : (job : List ℕ) (steps : List CommitStep) (m last : Files) → CanCommit job steps m
-    → last ≡ opened_map job steps m → finished (sequence_name job) steps last ≡ part_done job steps m
+    → last ≡ opened_map job steps m → finished_files (sequence_name job) steps last ≡ part_done job steps m
 finish_part job steps m last can is =
-    ap (finished (sequence_name job) steps) is ∙ closes_is job steps m (opened_map job steps m) can (opens job steps m)
+    ap (finished_files (sequence_name job) steps) is ∙ closes_is job steps m (opened_map job steps m) can (opens job steps m)
 
 finish_well : (job : List ℕ) (steps : List CommitStep) (m last n : Files) → CanCommit job steps m
     → last ≡ opened_map job steps m → Finishes (sequence_name job) steps last n
@@ -200,7 +200,7 @@ over_finished job steps a ends b = maps_then
 
 pub ends_part : (job : List ℕ) (steps : List CommitStep) {old between new : Option Disk}
     → AddsMaps (EndsAs (opened_map job steps)) old between
-    → AddsMaps (EndsAs (finished (sequence_name job) steps)) between new
+    → AddsMaps (EndsAs (finished_files (sequence_name job) steps)) between new
     → AddsMaps (WhereReady job steps (EndsAs (part_done job steps))) old new
 ends_part job steps a b = maps_then
     (λ m xs ys p q can. last-append m xs ys ∙ (q ∙ finish_part job steps m (last_map m xs) can p))

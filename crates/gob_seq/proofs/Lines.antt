@@ -10,7 +10,7 @@ use Rattle.std.proofs.lemmas.List.{append-nil}
 use Rattle.std.proofs.lemmas.Str.{IsUtf8-from_ascii}
 use Rattle.std.proofs.lemmas.Str.Ascii.{IsAscii-cons, IsAscii-nil}
 use Rattle.gob_text.specs.Words.{EndsWord, HasNoBreak, IsWord, Takes, TakesText, is_break}
-use Rattle.gob_recovery.specs.Sequence.{CommitStep, move, remove, is_file_name, is_name_byte, step_fits, step_line}
+use Rattle.gob_recovery.specs.Sequence.{CommitStep, move, remove, is_file_name, is_sequence_byte, step_fits, step_line}
 use Rattle.gob_recovery.specs.Sequence.{Reads, WellFormed}
 use Rattle.gob_recovery.proofs.Spelled.{cancel, first_line, move_body, move_end, move_remove, name_of_remove}
 use Rattle.gob_recovery.proofs.Spelled.{names_of_move, remove_body, remove_end, whole_text}
@@ -19,23 +19,23 @@ use Rattle.gob_seq.specs.Reading.{BodyIs, BodyRead, IsBody, NameTaken, NoneTaken
 
 -- ---- names
 
-name_ascii : (bytes : List ℕ) → list_all is_name_byte bytes ≡ true → IsAscii bytes
+name_ascii : (bytes : List ℕ) → list_all is_sequence_byte bytes ≡ true → IsAscii bytes
 name_ascii [] all = IsAscii-nil
 name_ascii (b ∷ bs) all =
-    let p = and_parts (is_name_byte b) (list_all is_name_byte bs) all in
+    let p = and_parts (is_sequence_byte b) (list_all is_sequence_byte bs) all in
     IsAscii-cons b bs (grind (arith, nat_tests, p.0)) (name_ascii bs p.1)
 
 pub file_utf8 : (name : List ℕ) → is_file_name name ≡ true → IsUtf8 name
 file_utf8 [] e = absurd (true≢false (sym e))
 file_utf8 (b ∷ bs) e = IsUtf8-from_ascii (b ∷ bs) (name_ascii (b ∷ bs) e)
 
-no_break : (b : ℕ) → is_name_byte b ≡ true → not (is_break b) ≡ true
+no_break : (b : ℕ) → is_sequence_byte b ≡ true → not (is_break b) ≡ true
 no_break b e = grind (arith, nat_tests)
 
-no_breaks : (bytes : List ℕ) → list_all is_name_byte bytes ≡ true → HasNoBreak bytes
+no_breaks : (bytes : List ℕ) → list_all is_sequence_byte bytes ≡ true → HasNoBreak bytes
 no_breaks [] all = refl
 no_breaks (b ∷ bs) all =
-    let p = and_parts (is_name_byte b) (list_all is_name_byte bs) all in
+    let p = and_parts (is_sequence_byte b) (list_all is_sequence_byte bs) all in
     and_from _ _ (no_break b p.0) (no_breaks bs p.1)
 
 pub file_word : (name : List ℕ) → is_file_name name ≡ true → IsWord name

@@ -10,7 +10,7 @@ use Rattle.gob_device.specs.Disk.{Disk, File, Files, contents_at, contents_of}
 use Rattle.gob_recovery.specs.Sequence.{CommitStep, move}
 use Rattle.gob_recovery.specs.Settle.{can_do}
 use Rattle.gob_seq.specs.Maps.{FirstLost, IsReady}
-use Rattle.gob_seq.specs.Steps.{step_of}
+use Rattle.gob_seq.specs.Steps.{commit_step_of}
 use Rattle.gob_seq.specs.declared.sequence.SeqStep.{SeqStep}
 use Rattle.gob_seq.specs.declared.sequence.SeqStep.TheVariants.{Move, Remove}
 use Rattle.gob_seq.proofs.Fronts.{one_more}
@@ -25,14 +25,14 @@ all_more m (t ∷ ts) s all can =
 -- one step more can be done
 pub can_more : (steps : List SeqStep) (i : ℕ) (step : SeqStep) (o : Option Disk) → i < length steps
     → step ≡ get_or steps i step
-    → IfSome o (λ d. list_all (can_do d.files) (take i (map step_of steps)) ≡ true)
-    → IfSome o (λ d. can_do d.files (step_of step) ≡ true)
-    → IfSome o (λ d. list_all (can_do d.files) (take (i + 1) (map step_of steps)) ≡ true)
+    → IfSome o (λ d. list_all (can_do d.files) (take i (map commit_step_of steps)) ≡ true)
+    → IfSome o (λ d. can_do d.files (commit_step_of step) ≡ true)
+    → IfSome o (λ d. list_all (can_do d.files) (take (i + 1) (map commit_step_of steps)) ≡ true)
 can_more steps i step None below is all can = tt
 can_more steps i step (Some d) below is all can =
-    ap (λ j. list_all (can_do d.files) (take j (map step_of steps))) (add-one i)
-    ∙ (ap (list_all (can_do d.files)) (one_more step_of steps i step below is)
-    ∙ all_more d.files (take i (map step_of steps)) (step_of step) all can)
+    ap (λ j. list_all (can_do d.files) (take j (map commit_step_of steps))) (add-one i)
+    ∙ (ap (list_all (can_do d.files)) (one_more commit_step_of steps i step below is)
+    ∙ all_more d.files (take i (map commit_step_of steps)) (commit_step_of step) all can)
 
 not_false : (b : Bool) → false ≡ not b → b ≡ true
 not_false true e = refl
@@ -46,53 +46,53 @@ not_true false e = refl
 pub not_lost : (step : SeqStep) (source target a b : List ℕ) (o p : Option Disk) → step ≡ Move source target → p ≡ o
     → a ≡ source → b ≡ target
     → IfSome p (λ d. false ≡ not (is_some (d.files a) || is_some (d.files b)))
-    → IfSome o (λ d. can_do d.files (step_of step) ≡ true)
+    → IfSome o (λ d. can_do d.files (commit_step_of step) ≡ true)
 not_lost step source target a b o p is same from to lost = told o
     (subst (λ q. IfSome q (λ d. false ≡ not (is_some (d.files a) || is_some (d.files b)))) same lost)
   where
     told : (q : Option Disk) → IfSome q (λ d. false ≡ not (is_some (d.files a) || is_some (d.files b)))
-        → IfSome q (λ d. can_do d.files (step_of step) ≡ true)
+        → IfSome q (λ d. can_do d.files (commit_step_of step) ≡ true)
     told None h = tt
     told (Some d) h =
-        ap (λ s. can_do d.files (step_of s)) is
+        ap (λ s. can_do d.files (commit_step_of s)) is
         ∙ ((λ i. is_some (d.files (sym from i)) || is_some (d.files (sym to i))) ∙ not_false _ h)
 
 -- a step that is no move
 pub other_can : (step : SeqStep) (o : Option Disk) → ((a b : List ℕ) → step ≡ Move a b → ⊥)
-    → IfSome o (λ d. can_do d.files (step_of step) ≡ true)
+    → IfSome o (λ d. can_do d.files (commit_step_of step) ≡ true)
 other_can step None other = tt
 other_can (Move a b) (Some d) other = absurd (other a b refl)
 other_can (Remove a) (Some d) other = refl
 
 cut_at : (steps : List SeqStep) (i : ℕ) (step : SeqStep) → i < length steps → step ≡ get_or steps i step
-    → map step_of steps ≡ take i (map step_of steps) ++ step_of step ∷ drop (suc i) (map step_of steps)
+    → map commit_step_of steps ≡ take i (map commit_step_of steps) ++ commit_step_of step ∷ drop (suc i) (map commit_step_of steps)
 cut_at [] i step below is = absurd (omega (arith, below))
-cut_at (s ∷ ss) zero step below is = ap (λ z. step_of z ∷ map step_of ss) (sym is)
-cut_at (s ∷ ss) (suc i) step below is = ap (λ t. step_of s ∷ t) (cut_at ss i step (omega (arith, below)) is)
+cut_at (s ∷ ss) zero step below is = ap (λ z. commit_step_of z ∷ map commit_step_of ss) (sym is)
+cut_at (s ∷ ss) (suc i) step below is = ap (λ t. commit_step_of s ∷ t) (cut_at ss i step (omega (arith, below)) is)
 
 -- the first move that is lost
 pub is_first : (steps : List SeqStep) (i : ℕ) (step : SeqStep) (source target a b : List ℕ) (o p : Option Disk)
     → i < length steps
     → step ≡ get_or steps i step → step ≡ Move source target → p ≡ o → a ≡ source → b ≡ target
-    → IfSome o (λ d. list_all (can_do d.files) (take i (map step_of steps)) ≡ true)
+    → IfSome o (λ d. list_all (can_do d.files) (take i (map commit_step_of steps)) ≡ true)
     → IfSome p (λ d. true ≡ not (is_some (d.files a) || is_some (d.files b)))
-    → IfSome o (λ d. FirstLost d.files (map step_of steps) a)
+    → IfSome o (λ d. FirstLost d.files (map commit_step_of steps) a)
 is_first steps i step source target a b o p below at is same from to all lost = told o all
     (subst (λ q. IfSome q (λ d. true ≡ not (is_some (d.files a) || is_some (d.files b)))) same lost)
   where
-    step_is : step_of step ≡ move a b
-    step_is = ap step_of is ∙ (λ i. move (sym from i) (sym to i))
+    step_is : commit_step_of step ≡ move a b
+    step_is = ap commit_step_of is ∙ (λ i. move (sym from i) (sym to i))
 
-    told : (q : Option Disk) → IfSome q (λ d. list_all (can_do d.files) (take i (map step_of steps)) ≡ true)
+    told : (q : Option Disk) → IfSome q (λ d. list_all (can_do d.files) (take i (map commit_step_of steps)) ≡ true)
         → IfSome q (λ d. true ≡ not (is_some (d.files a) || is_some (d.files b)))
-        → IfSome q (λ d. FirstLost d.files (map step_of steps) a)
+        → IfSome q (λ d. FirstLost d.files (map commit_step_of steps) a)
     told None all h = tt
     told (Some d) all h = record {
-      before = take i (map step_of steps);
+      before = take i (map commit_step_of steps);
       target = b;
-      after = drop (suc i) (map step_of steps);
-      whole = cut_at steps i step below at ∙ ap (λ s. take i (map step_of steps) ++ s ∷ drop (suc i)
-          (map step_of steps)) step_is;
+      after = drop (suc i) (map commit_step_of steps);
+      whole = cut_at steps i step below at ∙ ap (λ s. take i (map commit_step_of steps) ++ s ∷ drop (suc i)
+          (map commit_step_of steps)) step_is;
       can = all;
       cannot = not_true _ h;
     }

@@ -12,7 +12,7 @@ use Rattle.gob_device.specs.Disk.{Files, after_remove}
 use Rattle.gob_device.specs.Names.{IsPathname, is_pathname}
 use Rattle.gob_device.proofs.Names.{name_before, name_bytes}
 use Rattle.gob_recovery.specs.Commits.{OnlyBelow, staged_sequence}
-use Rattle.gob_recovery.specs.Sequence.{CommitStep, WellFormed, is_file_name, is_lasting, is_name_byte, is_staged, move}
+use Rattle.gob_recovery.specs.Sequence.{CommitStep, WellFormed, is_file_name, is_lasting, is_sequence_byte, is_staged, move}
 use Rattle.gob_recovery.specs.Sequence.{names_in, remove, step_fits}
 use Rattle.gob_recovery.specs.Settle.{do_steps}
 use Rattle.gob_recovery.proofs.Again.{Off, steps_off}
@@ -36,7 +36,7 @@ staged_is job = sym (append_assoc job (47 ∷ codes "stage/") (codes "seq"))
 
 file_pathname : (name : List ℕ) → is_file_name name ≡ true → is_pathname name ≡ true
 file_pathname [] e = e
-file_pathname (b ∷ bs) e = name_bytes is_name_byte refl (b ∷ bs) e
+file_pathname (b ∷ bs) e = name_bytes is_sequence_byte refl (b ∷ bs) e
 
 callable_each : (job : List ℕ) (steps : List CommitStep) → list_all (step_fits job) steps ≡ true
     → IsDistinct bytes_eq (flat_map names_in steps) → list_all is_callable steps ≡ true

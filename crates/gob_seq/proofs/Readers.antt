@@ -13,7 +13,7 @@ use Rattle.gob_recovery.specs.Settle.{do_steps}
 use Rattle.gob_recovery.proofs.Commits.{CanCommit, apart_below, sequence_staged}
 use Rattle.gob_recovery.proofs.Opened.{change_once}
 use Rattle.gob_recovery.proofs.Settled.{cleaned_other}
-use Rattle.gob_seq.specs.Maps.{CanFinish, CommitsByName, EndsAs, Finishes, HoldsOneOf, SettlesByName, finished}
+use Rattle.gob_seq.specs.Maps.{CanFinish, CommitsByName, EndsAs, Finishes, HoldsOneOf, SettlesByName, finished_files}
 use Rattle.gob_seq.proofs.ByNames.{finish_maps}
 use Rattle.gob_seq.proofs.GoingOver.{WhereReady, finish_part, opened_map, opens}
 use Rattle.gob_seq.proofs.Resettled.{to_after}
@@ -22,7 +22,7 @@ use Rattle.gob_seq.proofs.Trails.{along_known, if_both, maps_both}
 -- ---- steps that are done
 
 finished_at : (job : List ℕ) (steps : List CommitStep) (m : Files) (name : List ℕ) → name ≢ sequence_name job
-    → finished (sequence_name job) steps m name ≡ do_steps steps m name
+    → finished_files (sequence_name job) steps m name ≡ do_steps steps m name
 unfolding after_remove
 finished_at job steps m name apart =
     ap (λ b. cond b None (do_steps steps m name)) (two_names name (sequence_name job) apart)
@@ -43,7 +43,7 @@ finish_read : (job : List ℕ) (m n : Files) (steps : List CommitStep) → CanFi
 finish_read job m n steps can f = λ settled s name out apart.
     let after : do_steps steps m name ≡ settled name =
     sym (finished_at job steps m name apart)
-    ∙ (sym (cleaned_other job (finished (sequence_name job) steps m) name out)
+    ∙ (sym (cleaned_other job (finished_files (sequence_name job) steps m) name out)
     ∙ ap (λ (x : Files). x name) (to_after job m steps can settled s)) in
     ⊎_elim (λ e. inl e) (λ e. inr (e ∙ after)) (finish_once job steps m n name can.opened.reads.fits apart f)
 

@@ -25,21 +25,21 @@ use Rattle.gob_seq.specs.declared.faults.CommitFault.TheVariants as commit_fault
 use Rattle.gob_seq.specs.declared.faults.SettleFault.{SettleFault}
 use Rattle.gob_seq.specs.declared.faults.SettleFault.TheVariants as settle_fault
 use Rattle.gob_seq.specs.Faults.{DamageDue, Damages, RoseIfFailed, RoseIfSettleFailed, settle_of_commit, settle_of_read}
-use Rattle.gob_seq.specs.Maps.{Becomes, CanFinish, EndsAs, Finishes, GoesOn, ImagesSettleTheSame}
-use Rattle.gob_seq.specs.Maps.{SettlesUnstaged, finished}
+use Rattle.gob_seq.specs.Maps.{EndsBy, CanFinish, EndsAs, Finishes, SettlingGoesOn, ImagesSettleTheSame}
+use Rattle.gob_seq.specs.Maps.{SettlesUnstaged, finished_files}
 use Rattle.gob_seq.proofs.Trails.{along_known, always, at_told, if_both, maps_both, maps_known, maps_still}
 
-pub goes_same : (job : List ℕ) (m : Files) → GoesOn job m m
+pub goes_same : (job : List ℕ) (m : Files) → SettlingGoesOn job m m
 goes_same job m = record { same = λ settled s. s; untorn = λ quiet. quiet }
 
-pub goes_then : (job : List ℕ) (m n k : Files) → GoesOn job m n → GoesOn job n k → GoesOn job m k
+pub goes_then : (job : List ℕ) (m n k : Files) → SettlingGoesOn job m n → SettlingGoesOn job n k → SettlingGoesOn job m k
 goes_then job m n k a b = record {
   same = λ settled s. b.same settled (a.same settled s);
   untorn = λ quiet. b.untorn (a.untorn quiet);
 }
 
 -- where settling goes on as it began, it does so in each image
-pub goes_images : (job : List ℕ) (m n : Files) → GoesOn job m n → ImagesSettleTheSame job m n
+pub goes_images : (job : List ℕ) (m n : Files) → SettlingGoesOn job m n → ImagesSettleTheSame job m n
 goes_images job m n g = λ settled quiet s. images_alike job n settled (g.untorn quiet) (g.same settled s)
 
 -- ---- an open sequence is done
@@ -70,7 +70,7 @@ finish_untorn job m n steps can (inr done) quiet = λ f e.
     absurd (let no : None ≡ Some f = sym gone ∙ e in cc)
 
 pub finish_goes : (job : List ℕ) (m n : Files) (steps : List CommitStep) → CanFinish job m steps
-    → Finishes (sequence_name job) steps m n → GoesOn job m n
+    → Finishes (sequence_name job) steps m n → SettlingGoesOn job m n
 finish_goes job m n steps can f = record {
   same = λ settled s. subst (Settles job n) (to_after job m steps can settled s) (finish_same job m n steps can f);
   untorn = finish_untorn job m n steps can f;
@@ -78,7 +78,7 @@ finish_goes job m n steps can f = record {
 
 -- the sequence was done
 pub finish_unstaged : (job : List ℕ) (m n : Files) (steps : List CommitStep) → CanFinish job m steps
-    → n ≡ finished (sequence_name job) steps m → SettlesUnstaged job m n
+    → n ≡ finished_files (sequence_name job) steps m → SettlesUnstaged job m n
 finish_unstaged job m n steps can is = inr (steps, can.opened, can.can, ap (without_staging job) is)
 
 -- none was open
@@ -91,7 +91,7 @@ closed_then : (job : List ℕ) (m n : Files) → SettlesUnstaged job m n → n (
 closed_then job m n s =
     sym (cleaned_other job n (sequence_name job) (not_staged job)) ∙ (settled_is job m (without_staging job n) s).closed
 
-clean_goes : (job : List ℕ) (m n k : Files) → SettlesUnstaged job m n → OnlyBelow (staging job) n k → GoesOn job n k
+clean_goes : (job : List ℕ) (m n k : Files) → SettlesUnstaged job m n → OnlyBelow (staging job) n k → SettlingGoesOn job n k
 clean_goes job m n k unstaged below =
     let closed = closed_then job m n unstaged in
     record {
@@ -102,19 +102,19 @@ clean_goes job m n k unstaged below =
     }
 
 -- an open sequence was done, and then the staging was cleaned
-pub goes_cleaned : (job : List ℕ) {old between new : Option Disk} → Along (GoesOn job) old between
-    → AddsMaps (Becomes (SettlesUnstaged job)) old between → Along (OnlyBelow (staging job)) between new
-    → Along (GoesOn job) old new
+pub goes_cleaned : (job : List ℕ) {old between new : Option Disk} → Along (SettlingGoesOn job) old between
+    → AddsMaps (EndsBy (SettlesUnstaged job)) old between → Along (OnlyBelow (staging job)) between new
+    → Along (SettlingGoesOn job) old new
 goes_cleaned job a unstaged b = maps_then
-    (λ m xs ys p q. each-append (GoesOn job m) xs ys p.0
-    (each-map (OnlyBelow (staging job) (last_map m xs)) (GoesOn job m) ys
-    (λ n below. goes_then job m (last_map m xs) n (each-last (GoesOn job m) m xs (goes_same job m) p.0)
+    (λ m xs ys p q. each-append (SettlingGoesOn job m) xs ys p.0
+    (each-map (OnlyBelow (staging job) (last_map m xs)) (SettlingGoesOn job m) ys
+    (λ n below. goes_then job m (last_map m xs) n (each-last (SettlingGoesOn job m) m xs (goes_same job m) p.0)
     (clean_goes job m (last_map m xs) n p.1 below)) q))
     (maps_both a unstaged) b
 
 pub settles_cleaned : (job : List ℕ) {old between new : Option Disk}
-    → AddsMaps (Becomes (SettlesUnstaged job)) old between
-    → AddsMaps (EndsAs (without_staging job)) between new → AddsMaps (Becomes (Settles job)) old new
+    → AddsMaps (EndsBy (SettlesUnstaged job)) old between
+    → AddsMaps (EndsAs (without_staging job)) between new → AddsMaps (EndsBy (Settles job)) old new
 settles_cleaned job a b = maps_then
     (λ m xs ys p q. subst (Settles job m) (sym (last-append m xs ys ∙ q)) p)
     a b
@@ -123,20 +123,20 @@ settles_cleaned job a b = maps_then
 
 pub finish_along : (job : List ℕ) (steps : List CommitStep) {old new : Option Disk}
     → IfSome old (λ d. CanFinish job d.files steps)
-    → Along (Finishes (sequence_name job) steps) old new → Along (GoesOn job) old new
-finish_along job steps {old} can a = along_known (Finishes (sequence_name job) steps) (GoesOn job)
+    → Along (Finishes (sequence_name job) steps) old new → Along (SettlingGoesOn job) old new
+finish_along job steps {old} can a = along_known (Finishes (sequence_name job) steps) (SettlingGoesOn job)
     (if_both old (λ d k n f. finish_goes job d.files n steps k f) can) a
 
 pub finish_becomes : (job : List ℕ) (steps : List CommitStep) {old new : Option Disk}
     → IfSome old (λ d. CanFinish job d.files steps)
-    → AddsMaps (EndsAs (finished (sequence_name job) steps)) old new → AddsMaps (Becomes (SettlesUnstaged job)) old new
+    → AddsMaps (EndsAs (finished_files (sequence_name job) steps)) old new → AddsMaps (EndsBy (SettlesUnstaged job)) old new
 finish_becomes job steps {old} can a = maps_known (if_both old (λ d k xs e. finish_unstaged job d.files _ steps k e)
     can) a
 
 pub closed_becomes : (job name : List ℕ) (o : Option Disk) → name ≡ sequence_name job
     → IfSome o (λ d. d.files name ≡ None)
-    → AddsMaps (Becomes (SettlesUnstaged job)) o o
-closed_becomes job name o is closed = maps_still (Becomes (SettlesUnstaged job)) o
+    → AddsMaps (EndsBy (SettlesUnstaged job)) o o
+closed_becomes job name o is closed = maps_still (EndsBy (SettlesUnstaged job)) o
     (if_both o (λ d e. closed_unstaged job d.files (sym (ap d.files is) ∙ e)) closed)
 
 pub open_was : (job : List ℕ) (steps : List CommitStep) (o : Option Disk) → IfSome o (λ d. CanFinish job d.files steps)
@@ -160,11 +160,11 @@ can_undamaged job steps o can = if_both o (λ d k name damaged.
     (one_damage job d.files name damaged).unsettled (after_finish job steps d.files)
     (inr (steps, k.opened, k.can, refl))) can
 
-pub becomes_undamaged : (job : List ℕ) (old new : Option Disk) → AddsMaps (Becomes (SettlesUnstaged job)) old new
+pub becomes_undamaged : (job : List ℕ) (old new : Option Disk) → AddsMaps (EndsBy (SettlesUnstaged job)) old new
     → NoDamage job old
 becomes_undamaged job old new a = if_both old (λ d t name damaged.
     (one_damage job d.files name damaged).unsettled (without_staging job (last_map d.files t.0)) t.1)
-    (at_told (Becomes (SettlesUnstaged job)) old new a)
+    (at_told (EndsBy (SettlesUnstaged job)) old new a)
 
 pub undamaged_due : {T : Type 0} (job : List ℕ) (r : Result T SettleFault) (o : Option Disk) (P : Type 0)
     → NoDamage job o

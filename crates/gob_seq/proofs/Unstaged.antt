@@ -12,7 +12,7 @@ use Rattle.gob_device.proofs.Trail.{along_map}
 use Rattle.gob_recovery.specs.Sequence.{CommitStep, WellFormed, is_file_name, is_lasting, is_staged, move, remove}
 use Rattle.gob_recovery.specs.Sequence.{step_fits}
 use Rattle.gob_recovery.specs.Settle.{do_step, do_steps, moved_where}
-use Rattle.gob_seq.specs.Maps.{Finishes, IsFront, OnlyUnstages, finished}
+use Rattle.gob_seq.specs.Maps.{Finishes, FrontIsDone, OnlyUnstages, finished_files}
 use Rattle.gob_seq.proofs.ByNames.{finish_maps}
 
 unstages_itself : (job : List ℕ) (m : Files) → OnlyUnstages job m m
@@ -112,8 +112,8 @@ unstages_names job (name ∷ names) (suc k) m =
     (unstages_removed job name m) (unstages_names job names k (after_remove name m))
 
 pub removed_unstages : (job : List ℕ) (ns : List (List ℕ)) {old between new : Option Disk} → between ≡ old
-    → Along (IsFront (map remove ns)) between new → Along (OnlyUnstages job) old new
+    → Along (FrontIsDone (map remove ns)) between new → Along (OnlyUnstages job) old new
 removed_unstages job ns {old} {between} {new} still a =
     subst (λ o. Along (OnlyUnstages job) o new) still
-    (along_map (IsFront (map remove ns)) (OnlyUnstages job)
+    (along_map (FrontIsDone (map remove ns)) (OnlyUnstages job)
     (λ m n front. subst (OnlyUnstages job m) (sym front.1) (unstages_names job ns front.0 m)) a)

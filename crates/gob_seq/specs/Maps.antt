@@ -10,8 +10,8 @@ use Rattle.gob_recovery.specs.Commits.{two_settled}
 use Rattle.gob_recovery.specs.Laws.{NoTornSequence}
 
 -- the first map has R to the one that stands at last
-abbrev pub Becomes : (Files → Files → Type 0) → Files → List Files → Type 0
-Becomes R m added = R m (last_map m added)
+abbrev pub EndsBy : (Files → Files → Type 0) → Files → List Files → Type 0
+EndsBy R m added = R m (last_map m added)
 
 -- the map that stands at last is this one
 abbrev pub EndsAs : (Files → Files) → Files → List Files → Type 0
@@ -28,7 +28,7 @@ abbrev pub ImagesSettleTheSame : List ℕ → Files → Files → Type 0
 ImagesSettleTheSame job m n = (settled : Files) → NoTornSequence job m → Settles job m settled → SettlesAs job settled n
 
 -- settling goes on as it began, and a sequence doesn't become torn
-pub record GoesOn (job : List ℕ) (m n : Files) : Type 0 where
+pub record SettlingGoesOn (job : List ℕ) (m n : Files) : Type 0 where
   pub same : SettlesTheSame job m n
   pub untorn : NoTornSequence job m → NoTornSequence job n
 
@@ -53,16 +53,16 @@ pub record FirstLost (m : Files) (steps : List CommitStep) (source : List ℕ) :
 -- ---- steps that are done
 
 -- a front of the steps is done
-abbrev pub IsFront : List CommitStep → Files → Files → Type 0
-IsFront steps m n = (k : ℕ) × (n ≡ do_steps (take k steps) m)
+abbrev pub FrontIsDone : List CommitStep → Files → Files → Type 0
+FrontIsDone steps m n = (k : ℕ) × (n ≡ do_steps (take k steps) m)
 
 -- the steps are done and the sequence is gone
-abbrev pub finished : List ℕ → List CommitStep → Files → Files
-finished name steps m = after_remove name (do_steps steps m)
+abbrev pub finished_files : List ℕ → List CommitStep → Files → Files
+finished_files name steps m = after_remove name (do_steps steps m)
 
 -- a front of the steps is done, or all are and the sequence is gone
 abbrev pub Finishes : List ℕ → List CommitStep → Files → Files → Type 0
-Finishes name steps m n = IsFront steps m n ⊎ (n ≡ finished name steps m)
+Finishes name steps m n = FrontIsDone steps m n ⊎ (n ≡ finished_files name steps m)
 
 -- ---- a commit
 

@@ -3,12 +3,12 @@ use Rattle.std.specs.Prelude.{◌≡◌, ℕ, Bool, true, ◌&&◌, List, [], �
 use Rattle.std.specs.declared.option.Option.{Option}
 use Rattle.std.specs.declared.option.Option.TheVariants.{Some}
 use Rattle.std.specs.List.{list_all, flat_map}
-use Rattle.gob_bytes.specs.Words.{numbered}
+use Rattle.gob_bytes.specs.Words.{numbered_line}
 use Rattle.gob_text.specs.Words.{EndsWord}
 use Rattle.gob_recovery.specs.Sequence.{CommitStep, move, remove, is_file_name, step_line}
 use Rattle.gob_seq.specs.declared.read.Line.{Line}
 use Rattle.gob_seq.specs.declared.read.Line.TheVariants.{Step, NoStep, Damaged}
-use Rattle.gob_seq.specs.Steps.{step_of}
+use Rattle.gob_seq.specs.Steps.{commit_step_of}
 
 -- a sequence can spell the step's names
 abbrev pub is_named : CommitStep → Bool
@@ -16,7 +16,7 @@ is_named (move source target) = is_file_name source && is_file_name target
 is_named (remove name) = is_file_name name
 
 abbrev pub last_line : ℕ → List ℕ
-last_line n = numbered (codes "end") (n ∷ [])
+last_line n = numbered_line (codes "end") (n ∷ [])
 
 -- the text is the lines of these steps and a last line with this number
 pub record IsBody (steps : List CommitStep) (n : ℕ) (text : List ℕ) : Type 0 where
@@ -36,10 +36,10 @@ pub record NoneTaken (old new : List ℕ) : Type 0 where
   pub only : (steps : List CommitStep) (n : ℕ) → IsBody steps n old → steps ≡ []
 
 -- a step's line, the front of another text, or the front of no text at all
-abbrev pub IsLine : List ℕ → List ℕ → Line → Type 0
-IsLine old new (Step step) = StepTaken old new (step_of step)
-IsLine old new NoStep = NoneTaken old new
-IsLine old new Damaged = (steps : List CommitStep) (n : ℕ) → IsBody steps n old → ⊥
+abbrev pub IsStepLine : List ℕ → List ℕ → Line → Type 0
+IsStepLine old new (Step step) = StepTaken old new (commit_step_of step)
+IsStepLine old new NoStep = NoneTaken old new
+IsStepLine old new Damaged = (steps : List CommitStep) (n : ℕ) → IsBody steps n old → ⊥
 
 -- the text is that of these steps and their number, and of no others
 pub record BodyRead (text : List ℕ) (steps : List CommitStep) : Type 0 where

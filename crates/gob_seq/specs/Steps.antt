@@ -10,13 +10,13 @@ use Rattle.gob_seq.specs.declared.sequence.SeqStep.{SeqStep}
 use Rattle.gob_seq.specs.declared.sequence.SeqStep.TheVariants.{Move, Remove}
 use Rattle.gob_seq.specs.declared.place.Place.{Place}
 
-abbrev pub step_of : SeqStep → CommitStep
-step_of (Move source target) = move source target
-step_of (Remove name) = remove name
+abbrev pub commit_step_of : SeqStep → CommitStep
+commit_step_of (Move source target) = move source target
+commit_step_of (Remove name) = remove name
 
 -- the names of a job
-abbrev pub place_of : List ℕ → Place
-place_of job = record {
+abbrev pub job_place : List ℕ → Place
+job_place job = record {
   folder = under job [];
   staging = staging job;
   staged = staged_sequence job;

@@ -2,7 +2,7 @@
 
 ghost use Rattle.std.specs.Prelude.{◌≡◌, IfOk};
 ghost use Rattle.gob_bytes.specs.Paths.{under};
-ghost use Rattle.gob_seq.specs.Steps.{place_of};
+ghost use Rattle.gob_seq.specs.Steps.{job_place};
 
 use gob_plan::{NoMemory, Text};
 use std::alloc::Global;
@@ -22,7 +22,7 @@ pub(crate) struct Place {
 
 impl Place {
     pub fn new(alloc: Global, job: &str) -> Result<Place, NoMemory>
-        ensures { IfOk result (λ p. p ≡ place_of job.now) }
+        ensures { IfOk result (λ p. p ≡ job_place job.now) }
     {
         let folder = path(alloc, job, "")?;
         let staging = path(alloc, job, "stage/")?;

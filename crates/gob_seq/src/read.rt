@@ -1,8 +1,8 @@
 //! How a sequence is read back.
 
 ghost use Rattle.std.specs.Prelude.{◌≡◌, ◌↔◌, ◌++◌, codes, map, IfOk, IsTrue, option_map};
-ghost use Rattle.gob_seq.specs.Reading.{BodyIs, IsLine, NameTaken, last_line};
-ghost use Rattle.gob_seq.specs.Steps.{ReadIs, step_of};
+ghost use Rattle.gob_seq.specs.Reading.{BodyIs, IsStepLine, NameTaken, last_line};
+ghost use Rattle.gob_seq.specs.Steps.{ReadIs, commit_step_of};
 
 use crate::sequence::{SeqStep, Sequence, is_file_name};
 use gob_plan::{List, NoMemory, Text};
@@ -27,7 +27,7 @@ pub fn read_sequence(alloc: Global, job: &str, bytes: &[u8]) -> Result<Option<Se
 
 // The steps up to the last line, with which the text ends.
 fn read_steps(alloc: Global, words: &mut Words<'_>) -> Result<Option<List<SeqStep>>, NoMemory>
-    ensures { IfOk result (λ read. BodyIs words.old (option_map (λ steps. map step_of steps) read)) }
+    ensures { IfOk result (λ read. BodyIs words.old (option_map (λ steps. map commit_step_of steps) read)) }
 {
     let mut steps = List::new(alloc);
     loop {
@@ -67,7 +67,7 @@ enum Line {
 
 // Takes a step's line.
 fn take_line(alloc: Global, words: &mut Words<'_>) -> Result<Line, NoMemory>
-    ensures { IfOk result (IsLine words.old words.new) }
+    ensures { IfOk result (IsStepLine words.old words.new) }
 {
     if words.take_text(b"move ") {
         return take_move(alloc, words);
@@ -80,7 +80,7 @@ fn take_line(alloc: Global, words: &mut Words<'_>) -> Result<Line, NoMemory>
 
 // Takes what follows the first word of a move.
 fn take_move(alloc: Global, words: &mut Words<'_>) -> Result<Line, NoMemory>
-    ensures { IfOk result (IsLine (codes "move " ++ words.old) words.new) }
+    ensures { IfOk result (IsStepLine (codes "move " ++ words.old) words.new) }
 {
     let Some(from) = take_file_name(alloc, words)? else {
         return Ok(Line::Damaged);
@@ -101,7 +101,7 @@ fn take_move(alloc: Global, words: &mut Words<'_>) -> Result<Line, NoMemory>
 
 // Takes what follows the first word of a removal.
 fn take_remove(alloc: Global, words: &mut Words<'_>) -> Result<Line, NoMemory>
-    ensures { IfOk result (IsLine (codes "remove " ++ words.old) words.new) }
+    ensures { IfOk result (IsStepLine (codes "remove " ++ words.old) words.new) }
 {
     let Some(name) = take_file_name(alloc, words)? else {
         return Ok(Line::Damaged);

@@ -5,7 +5,7 @@ ghost use Rattle.std.specs.List.{flat_map, list_all, IsDistinct};
 ghost use Rattle.std.specs.Str.{bytes_eq};
 ghost use Rattle.gob_bytes.specs.Paths.{begins_with};
 ghost use Rattle.gob_recovery.specs.Sequence as recovery;
-ghost use Rattle.gob_seq.specs.Steps.{NewIs, fits_at, lasting_at, staged_at, step_of};
+ghost use Rattle.gob_seq.specs.Steps.{NewIs, fits_at, lasting_at, staged_at, commit_step_of};
 
 use crate::place::Place;
 use gob_plan::{List, NoMemory, Text};
@@ -31,11 +31,11 @@ pub struct Sequence {
 impl Model for Sequence {
     ghost use Rattle.std.specs.Prelude.{List as Items, map};
     ghost use Rattle.gob_recovery.specs.Sequence.{CommitStep};
-    ghost use Rattle.gob_seq.specs.Steps.{step_of};
+    ghost use Rattle.gob_seq.specs.Steps.{commit_step_of};
 
     ghost Value = { Items CommitStep };
 
-    ghost view = { λ s. map step_of s.steps };
+    ghost view = { λ s. map commit_step_of s.steps };
 }
 
 impl Sequence {
@@ -43,7 +43,7 @@ impl Sequence {
     /// is removed are names of its folder that are neither staged nor the open sequence, no name stands twice, and
     /// each has only letters, digits and `._-/@%`.
     pub fn new(alloc: Global, job: &str, steps: List<SeqStep>) -> Result<Option<Sequence>, NoMemory>
-        ensures { IfOk result (NewIs job.now (map step_of steps)) }
+        ensures { IfOk result (NewIs job.now (map commit_step_of steps)) }
     {
         let place = Place::new(alloc, job)?;
         if !fit(&place, steps.as_slice()) {
@@ -56,14 +56,14 @@ impl Sequence {
     }
 
     pub fn steps(&self) -> &[SeqStep]
-        ensures { map step_of result.now ≡ self.now }
+        ensures { map commit_step_of result.now ≡ self.now }
     {
         self.steps.as_slice()
     }
 }
 
 fn fit(place: &Place, steps: &[SeqStep]) -> bool
-    ensures { result ≡ list_all (fits_at place.now) (map step_of steps.now) }
+    ensures { result ≡ list_all (fits_at place.now) (map commit_step_of steps.now) }
 {
     for step in steps {
         if !step_fits(place, step) {
@@ -74,7 +74,7 @@ fn fit(place: &Place, steps: &[SeqStep]) -> bool
 }
 
 fn step_fits(place: &Place, step: &SeqStep) -> bool
-    ensures { result ≡ fits_at place.now (step_of step.now) }
+    ensures { result ≡ fits_at place.now (commit_step_of step.now) }
 {
     match step {
         SeqStep::Move { from, to } => {
@@ -123,13 +123,13 @@ pub(crate) fn is_file_name(name: &str) -> bool
 }
 
 fn are_name_bytes(bytes: &[u8]) -> bool
-    ensures { result ≡ list_all recovery.is_name_byte bytes.now }
+    ensures { result ≡ list_all recovery.is_sequence_byte bytes.now }
 {
     bytes.iter().all(|b| is_name_byte(*b))
 }
 
 fn is_name_byte(b: u8) -> bool
-    ensures { result ≡ recovery.is_name_byte b }
+    ensures { result ≡ recovery.is_sequence_byte b }
 {
     b.is_ascii_alphanumeric() || matches!(b, b'.' | b'_' | b'-' | b'/' | b'@' | b'%')
 }
@@ -137,14 +137,14 @@ fn is_name_byte(b: u8) -> bool
 // Whether no name stands twice in the steps.
 fn differ(alloc: Global, steps: &[SeqStep]) -> Result<bool, NoMemory>
     ensures { IfOk result (λ yes. IsTrue yes
-        ↔ IsDistinct bytes_eq (flat_map recovery.names_in (map step_of steps.now))) }
+        ↔ IsDistinct bytes_eq (flat_map recovery.names_in (map commit_step_of steps.now))) }
 {
     let names = names_in(alloc, steps)?;
     are_distinct(alloc, names.as_slice())
 }
 
 fn names_in<'a>(alloc: Global, steps: &'a [SeqStep]) -> Result<Vec<&'a str>, NoMemory>
-    ensures { IfOk result (λ names. map (λ n. n.now) names.items ≡ flat_map recovery.names_in (map step_of steps.now)) }
+    ensures { IfOk result (λ names. map (λ n. n.now) names.items ≡ flat_map recovery.names_in (map commit_step_of steps.now)) }
 {
     let mut names = Vec::new(alloc);
     for step in steps {
@@ -155,7 +155,7 @@ fn names_in<'a>(alloc: Global, steps: &'a [SeqStep]) -> Result<Vec<&'a str>, NoM
 
 fn push_names<'a>(names: &mut Vec<&'a str>, step: &'a SeqStep) -> Result<(), NoMemory>
     ensures { IfOk result (λ _. map (λ n. n.now) names.new.items
-        ≡ map (λ n. n.now) names.old.items ++ recovery.names_in (step_of step.now)) }
+        ≡ map (λ n. n.now) names.old.items ++ recovery.names_in (commit_step_of step.now)) }
 {
     match step {
         SeqStep::Move { from, to } => {

@@ -7,7 +7,7 @@ ghost use Rattle.gob_device.specs.Names.{IsPathname};
 ghost use Rattle.gob_recovery.specs.Commits.{OnlyBelow};
 ghost use Rattle.gob_recovery.specs.Sequence.{WellFormed};
 ghost use Rattle.gob_recovery.specs.Settle.{IsDamaged, Settles};
-ghost use Rattle.gob_seq.specs.Maps.{Becomes, CanFinish, GoesOn, ImagesSettleTheSame, SettlesByName, SettlesTheSame};
+ghost use Rattle.gob_seq.specs.Maps.{EndsBy, CanFinish, SettlingGoesOn, ImagesSettleTheSame, SettlesByName, SettlesTheSame};
 ghost use Rattle.gob_seq.specs.Maps.{OnlyUnstages, SettlesUnstaged};
 ghost use Rattle.gob_seq.specs.Faults.{DamageDue, Damages, RoseIfSettleFailed};
 
@@ -35,7 +35,7 @@ pub fn settle<V: Volume>(alloc: Global, volume: &mut V, job: &str) -> Result<Set
     ensures images { Along (ImagesSettleTheSame job.now) (V.disk volume.old) (V.disk volume.new) }
     ensures readers { Along (SettlesByName job.now) (V.disk volume.old) (V.disk volume.new) }
     ensures unstages { Along (OnlyUnstages job.now) (V.disk volume.old) (V.disk volume.new) }
-    ensures ok { OnOk result (AddsMaps (Becomes (Settles job.now)) (V.disk volume.old) (V.disk volume.new)) }
+    ensures ok { OnOk result (AddsMaps (EndsBy (Settles job.now)) (V.disk volume.old) (V.disk volume.new)) }
     ensures was_open { IfOk result (λ s. IfSome (V.disk volume.old)
         (λ d. s.was_open ≡ is_some (d.files (sequence_name job.now)))) }
     ensures damaged { IfErr result (Damages job.now (V.disk volume.old) (V.disk volume.new)) }
@@ -53,10 +53,10 @@ pub fn settle<V: Volume>(alloc: Global, volume: &mut V, job: &str) -> Result<Set
 // Does an open sequence to its end, and answers whether there was one.
 fn finish_open<V: Volume>(alloc: Global, volume: &mut V, job: &str) -> Result<bool, SettleFault>
     requires named { IsPathname job.now }
-    ensures goes { Along (GoesOn job.now) (V.disk volume.old) (V.disk volume.new) }
+    ensures goes { Along (SettlingGoesOn job.now) (V.disk volume.old) (V.disk volume.new) }
     ensures readers { Along (SettlesByName job.now) (V.disk volume.old) (V.disk volume.new) }
     ensures unstages { Along (OnlyUnstages job.now) (V.disk volume.old) (V.disk volume.new) }
-    ensures ok { OnOk result (AddsMaps (Becomes (SettlesUnstaged job.now)) (V.disk volume.old) (V.disk volume.new)) }
+    ensures ok { OnOk result (AddsMaps (EndsBy (SettlesUnstaged job.now)) (V.disk volume.old) (V.disk volume.new)) }
     ensures was_open { IfOk result (λ was. IfSome (V.disk volume.old)
         (λ d. was ≡ is_some (d.files (sequence_name job.now)))) }
     ensures damaged { IfErr result (Damages job.now (V.disk volume.old) (V.disk volume.new)) }

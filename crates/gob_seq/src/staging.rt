@@ -9,7 +9,7 @@ ghost use Rattle.gob_recovery.specs.Commits.{OnlyBelow};
 ghost use Rattle.gob_recovery.specs.Sequence.{remove};
 ghost use Rattle.gob_recovery.specs.Settle.{do_steps, without_staging};
 ghost use Rattle.gob_seq.specs.Faults.{RoseIfFailed};
-ghost use Rattle.gob_seq.specs.Maps.{EndsAs, IsFront, OnlyUnstages};
+ghost use Rattle.gob_seq.specs.Maps.{EndsAs, FrontIsDone, OnlyUnstages};
 
 use crate::CommitFault;
 use crate::place::Place;
@@ -32,7 +32,7 @@ pub fn clean_staging<V: Volume>(alloc: Global, volume: &mut V, job: &str) -> Res
 }
 
 fn remove_all<V: Volume>(volume: &mut V, names: &[Text]) -> Result<(), CommitFault>
-    ensures maps { Along (IsFront (map remove names.now)) (V.disk volume.old) (V.disk volume.new) }
+    ensures maps { Along (FrontIsDone (map remove names.now)) (V.disk volume.old) (V.disk volume.new) }
     ensures ok { OnOk result (AddsMaps (EndsAs (do_steps (map remove names.now)))
         (V.disk volume.old) (V.disk volume.new)) }
     ensures err { IfErr result (RoseIfFailed (V.faults volume.old) (V.faults volume.new)) }

@@ -6,8 +6,8 @@ ghost use Rattle.gob_device.specs.Causes.{Rose};
 ghost use Rattle.gob_device.specs.Disk.{AddsMaps, Along, Whole};
 ghost use Rattle.gob_device.specs.Names.{IsPathname};
 ghost use Rattle.gob_recovery.specs.Settle.{can_do, do_step, do_steps};
-ghost use Rattle.gob_seq.specs.Maps.{EndsAs, Finishes, FirstLost, IsFront, finished};
-ghost use Rattle.gob_seq.specs.Steps.{is_callable, step_of};
+ghost use Rattle.gob_seq.specs.Maps.{EndsAs, Finishes, FirstLost, FrontIsDone, finished_files};
+ghost use Rattle.gob_seq.specs.Steps.{is_callable, commit_step_of};
 
 use crate::sequence::SeqStep;
 use gob_plan::Failed;
@@ -16,9 +16,9 @@ use gob_volume::Volume;
 /// Does the steps of an open sequence and takes it away.
 pub(crate) fn finish<V: Volume>(volume: &mut V, name: &str, steps: &[SeqStep]) -> Result<(), Failed>
     requires named { IsPathname name.now }
-    requires steps { list_all is_callable (map step_of steps.now) ≡ true }
-    ensures maps { Along (Finishes name.now (map step_of steps.now)) (V.disk volume.old) (V.disk volume.new) }
-    ensures ok { OnOk result (AddsMaps (EndsAs (finished name.now (map step_of steps.now)))
+    requires steps { list_all is_callable (map commit_step_of steps.now) ≡ true }
+    ensures maps { Along (Finishes name.now (map commit_step_of steps.now)) (V.disk volume.old) (V.disk volume.new) }
+    ensures ok { OnOk result (AddsMaps (EndsAs (finished_files name.now (map commit_step_of steps.now)))
         (V.disk volume.old) (V.disk volume.new)) }
     ensures err { OnErr result (Rose (V.faults volume.old) (V.faults volume.new)) }
     ensures goes_on { V.faults volume.old ≤ V.faults volume.new }
@@ -29,9 +29,9 @@ pub(crate) fn finish<V: Volume>(volume: &mut V, name: &str, steps: &[SeqStep]) -
 }
 
 fn do_steps<V: Volume>(volume: &mut V, steps: &[SeqStep]) -> Result<(), Failed>
-    requires steps { list_all is_callable (map step_of steps.now) ≡ true }
-    ensures maps { Along (IsFront (map step_of steps.now)) (V.disk volume.old) (V.disk volume.new) }
-    ensures ok { OnOk result (AddsMaps (EndsAs (do_steps (map step_of steps.now)))
+    requires steps { list_all is_callable (map commit_step_of steps.now) ≡ true }
+    ensures maps { Along (FrontIsDone (map commit_step_of steps.now)) (V.disk volume.old) (V.disk volume.new) }
+    ensures ok { OnOk result (AddsMaps (EndsAs (do_steps (map commit_step_of steps.now)))
         (V.disk volume.old) (V.disk volume.new)) }
     ensures err { OnErr result (Rose (V.faults volume.old) (V.faults volume.new)) }
     ensures goes_on { V.faults volume.old ≤ V.faults volume.new }
@@ -44,9 +44,9 @@ fn do_steps<V: Volume>(volume: &mut V, steps: &[SeqStep]) -> Result<(), Failed>
 
 // A move whose source is gone was done already.
 fn do_step<V: Volume>(volume: &mut V, step: &SeqStep) -> Result<(), Failed>
-    requires { is_callable (step_of step.now) ≡ true }
-    ensures maps { Along (Whole (do_step (step_of step.now))) (V.disk volume.old) (V.disk volume.new) }
-    ensures ok { OnOk result (AddsMaps (EndsAs (do_step (step_of step.now))) (V.disk volume.old) (V.disk volume.new)) }
+    requires { is_callable (commit_step_of step.now) ≡ true }
+    ensures maps { Along (Whole (do_step (commit_step_of step.now))) (V.disk volume.old) (V.disk volume.new) }
+    ensures ok { OnOk result (AddsMaps (EndsAs (do_step (commit_step_of step.now))) (V.disk volume.old) (V.disk volume.new)) }
     ensures err { OnErr result (Rose (V.faults volume.old) (V.faults volume.new)) }
     ensures goes_on { V.faults volume.old ≤ V.faults volume.new }
 {
@@ -66,10 +66,10 @@ pub(crate) fn first_lost<'a, V: Volume>(
     volume: &mut V,
     steps: &'a [SeqStep],
 ) -> Result<Option<&'a str>, Failed>
-    requires steps { list_all is_callable (map step_of steps.now) ≡ true }
+    requires steps { list_all is_callable (map commit_step_of steps.now) ≡ true }
     ensures lost { IfOk result (λ lost. IfSome (V.disk volume.old) (λ d. MatchOption lost
-        (list_all (can_do d.files) (map step_of steps.now) ≡ true)
-        (λ source. FirstLost d.files (map step_of steps.now) source.now))) }
+        (list_all (can_do d.files) (map commit_step_of steps.now) ≡ true)
+        (λ source. FirstLost d.files (map commit_step_of steps.now) source.now))) }
     ensures disk { V.disk volume.new ≡ V.disk volume.old }
     ensures err { OnErr result (Rose (V.faults volume.old) (V.faults volume.new)) }
     ensures goes_on { V.faults volume.old ≤ V.faults volume.new }

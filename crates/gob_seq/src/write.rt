@@ -3,7 +3,7 @@
 ghost use Rattle.std.specs.Prelude.{◌≡◌, ◌++◌, map, length, IfOk, OnOk};
 ghost use Rattle.std.specs.List.{flat_map};
 ghost use Rattle.gob_recovery.specs.Sequence.{sequence_text, step_line};
-ghost use Rattle.gob_seq.specs.Steps.{step_of};
+ghost use Rattle.gob_seq.specs.Steps.{commit_step_of};
 
 use crate::sequence::{SeqStep, Sequence};
 use gob_plan::{Bytes, NoMemory};
@@ -20,7 +20,7 @@ pub fn write_sequence(alloc: Global, sequence: &Sequence) -> Result<Bytes, NoMem
 }
 
 fn push_sequence(into: &mut Vec<u8>, steps: &[SeqStep]) -> Result<(), AllocError>
-    ensures { OnOk result (into.new.items ≡ into.old.items ++ sequence_text (map step_of steps.now)) }
+    ensures { OnOk result (into.new.items ≡ into.old.items ++ sequence_text (map commit_step_of steps.now)) }
 {
     into.extend_from_slice(b"gobblin-sequence 1\n")?;
     push_steps(into, steps)?;
@@ -31,7 +31,7 @@ fn push_sequence(into: &mut Vec<u8>, steps: &[SeqStep]) -> Result<(), AllocError
 }
 
 fn push_steps(into: &mut Vec<u8>, steps: &[SeqStep]) -> Result<(), AllocError>
-    ensures { OnOk result (into.new.items ≡ into.old.items ++ flat_map step_line (map step_of steps.now)) }
+    ensures { OnOk result (into.new.items ≡ into.old.items ++ flat_map step_line (map commit_step_of steps.now)) }
 {
     for step in steps {
         push_step(into, step)?;
@@ -40,7 +40,7 @@ fn push_steps(into: &mut Vec<u8>, steps: &[SeqStep]) -> Result<(), AllocError>
 }
 
 fn push_step(into: &mut Vec<u8>, step: &SeqStep) -> Result<(), AllocError>
-    ensures { OnOk result (into.new.items ≡ into.old.items ++ step_line (step_of step.now)) }
+    ensures { OnOk result (into.new.items ≡ into.old.items ++ step_line (commit_step_of step.now)) }
 {
     match step {
         SeqStep::Move { from, to } => {

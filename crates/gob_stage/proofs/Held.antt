@@ -12,7 +12,7 @@ use Rattle.gob_device.proofs.Trail.{both_map}
 use Rattle.gob_stage.specs.Attempt.{AreThere, AttemptValue, HoldsClean, HoldsStaged, after_begin, is_begun, staged_name}
 use Rattle.gob_stage.specs.Attempt.{with_appended, with_target}
 use Rattle.gob_stage.specs.Laws.{SameBelow}
-use Rattle.gob_stage.specs.Stages.{HoldsAll, HoldsMore, after_finish, after_staging, after_syncs, begin_where}
+use Rattle.gob_stage.specs.Stages.{HoldsAll, HoldsMore, after_sync_calls, after_staging, after_syncs, begin_where}
 use Rattle.gob_stage.proofs.Names.{any_with, apart_in, begun_is, front_more, names_with}
 use Rattle.gob_stage.proofs.Maps.{appended_here, appended_other, by_name, clean_synced, contents_more, contents_synced}
 use Rattle.gob_stage.proofs.Maps.{created_here, created_other, synced_here, there_mapped}
@@ -155,7 +155,7 @@ any_mapped folder (u ∷ ts) t there = cases (bytes_eq t u) refl there (any_mapp
         (name_itself (folder ++ t)))) refl
     cases false e there later = either (bytes_eq (folder ++ t) (folder ++ u)) (later there)
 
-pub holds_all : (a : AttemptValue) (d : Disk) → HoldsAll a d (after_finish a d)
+pub holds_all : (a : AttemptValue) (d : Disk) → HoldsAll a d (after_sync_calls a d)
 holds_all a d contents held = record {
   begun = held.begun;
   files = λ target bytes is. syncs_each (map (staged_name a) a.begun) d (staged_name a target) bytes

@@ -15,7 +15,7 @@ use Rattle.gob_bytes.proofs.Tables.{rising_tail, same_name, two_names}
 use Rattle.gob_device.specs.Names.{IsPathname, is_pathname}
 use Rattle.gob_device.proofs.Names.{bytes_of_name, name_before}
 use Rattle.gob_stage.specs.Attempt.{with_target}
-use Rattle.gob_stage.specs.Inside.{IsKept}
+use Rattle.gob_stage.specs.Inside.{AreStagingTargets}
 
 -- a name is among those of a table exactly where a look-up finds it
 pub begun_is : {X : Type 0} (t : Table X) (name : List ℕ) → list_any (bytes_eq name) (names_of t) ≡ is_some
@@ -205,8 +205,8 @@ named_more (e ∷ es) target x named all = cases (name_cmp target e.0) refl (nam
         parts.0 later)
 
 -- one more
-pub kept_more : (folder : List ℕ) (files : Table (List ℕ)) (target : List ℕ) → IsKept folder files → IsPathname target
-    → IsKept folder (with_name files target (folder ++ target))
+pub kept_more : (folder : List ℕ) (files : Table (List ℕ)) (target : List ℕ) → AreStagingTargets folder files → IsPathname target
+    → AreStagingTargets folder (with_name files target (folder ++ target))
 kept_more folder files target kept named = record {
   folder_named = kept.folder_named;
   rising = rising-with_name files target (folder ++ target) kept.rising;

@@ -19,8 +19,8 @@ use Rattle.gob_plan.specs.declared.units.StagedFile.{StagedFile}
 use Rattle.gob_recovery.specs.Commits.{OnlyBelow}
 use Rattle.gob_stage.specs.Attempt.{AreThere, AttemptValue, after_begin, is_begun, staged_entry, staged_file}
 use Rattle.gob_stage.specs.Attempt.{staged_files, staged_name, with_target}
-use Rattle.gob_stage.specs.Inside.{IsKept}
-use Rattle.gob_stage.specs.Stages.{EachThere, OnlyAmong, after_finish, after_making, after_staging, after_syncs}
+use Rattle.gob_stage.specs.Inside.{AreStagingTargets}
+use Rattle.gob_stage.specs.Stages.{EachThere, OnlyAmong, after_sync_calls, after_making, after_staging, after_syncs}
 use Rattle.gob_stage.specs.Stages.{begin_where}
 use Rattle.gob_stage.proofs.Names.{begun_is, front_more, kept_more, kept_name, kept_path, named_in, names_with}
 use Rattle.gob_stage.proofs.Names.{with_begun}
@@ -28,7 +28,7 @@ use Rattle.gob_stage.proofs.Names.{with_begun}
 pub record Opened (a : AttemptValue) (folder : List ℕ) (files : Table (List ℕ)) : Type 0 where
   pub folder_is : folder ≡ a.folder
   pub begun_is : names_of files ≡ a.begun
-  pub kept : IsKept folder files
+  pub kept : AreStagingTargets folder files
 
 -- ---- a target that is begun, or isn't
 
@@ -69,10 +69,10 @@ begun_again a folder files target o begun =
 
 pub kept_added : (a : AttemptValue) (folder : List ℕ) (files more : Table (List ℕ)) (target name : List ℕ)
     → Opened a folder files
-    → IsPathname target → name ≡ staged_name a target → more ≡ with_name files target name → IsKept folder more
+    → IsPathname target → name ≡ staged_name a target → more ≡ with_name files target name → AreStagingTargets folder more
 kept_added a folder files more target name o named is added =
     let here : name ≡ folder ++ target = is ∙ ap (λ f. f ++ target) (sym o.folder_is) in
-    subst (IsKept folder) (sym (added ∙ ap (with_name files target) here)) (kept_more folder files target o.kept named)
+    subst (AreStagingTargets folder) (sym (added ∙ ap (with_name files target) here)) (kept_more folder files target o.kept named)
 
 pub view_added : (a : AttemptValue) (job folder : List ℕ) (files more : Table (List ℕ)) (target name : List ℕ)
     → (let v : AttemptValue = record { job = job; folder = folder; begun = names_of files } in v) ≡ a
@@ -220,10 +220,10 @@ among_below a folder files m n o only q out =
 
 -- ---- the list of files that is lent
 
-pub kept_none : (folder : List ℕ) (files : Table (List ℕ)) → IsPathname folder → files ≡ [] → IsKept folder files
-kept_none folder files named none = subst (IsKept folder) (sym none) empty
+pub kept_none : (folder : List ℕ) (files : Table (List ℕ)) → IsPathname folder → files ≡ [] → AreStagingTargets folder files
+kept_none folder files named none = subst (AreStagingTargets folder) (sym none) empty
   where
-    empty : IsKept folder []
+    empty : AreStagingTargets folder []
     empty = record { folder_named = named; rising = tt; staged = refl; targets_named = refl }
 
 pub lent_below : (a : AttemptValue) (folder : List ℕ) (files lent : Table (List ℕ)) {old new : Option Disk}
@@ -236,7 +236,7 @@ lent_below a folder files lent o is only =
 
 pub lent_synced : (a : AttemptValue) (folder : List ℕ) (files lent : Table (List ℕ)) (old : Option Disk)
     → Opened a folder files → lent ≡ files
-    → option_map (after_syncs (map (λ e. e.1) lent)) old ≡ option_map (after_finish a) old
+    → option_map (after_syncs (map (λ e. e.1) lent)) old ≡ option_map (after_sync_calls a) old
 lent_synced a folder files lent old o is = ap (λ ns. option_map (after_syncs ns) old)
     (ap (map (λ (e : List ℕ × List ℕ). e.1)) is ∙ kept_names a folder files o)
 

@@ -36,8 +36,8 @@ abbrev pub OnlyAmong : List (List ℕ) → Files → Files → Type 0
 OnlyAmong names m n = (other : List ℕ) → list_any (bytes_eq other) names ≡ false → n other ≡ m other
 
 -- the files that were begun are synced
-abbrev pub after_finish : AttemptValue → Disk → Disk
-after_finish a d = after_syncs (map (staged_name a) a.begun) d
+abbrev pub after_sync_calls : AttemptValue → Disk → Disk
+after_sync_calls a d = after_syncs (map (staged_name a) a.begun) d
 
 -- where the files held what was appended, they hold these bytes too
 abbrev pub HoldsMore : AttemptValue → List ℕ → List ℕ → Disk → Disk → Type 0

@@ -9,7 +9,7 @@ ghost use Rattle.std.specs.List.{list_all};
 ghost use Rattle.gob_recovery.specs.Commits.{OnlyBelow};
 ghost use Rattle.gob_stage.specs.Attempt.{AreThere, after_begin, is_begun, new_attempt, staged_entry, staged_files};
 ghost use Rattle.gob_stage.specs.Attempt.{staged_name};
-ghost use Rattle.gob_stage.specs.Stages.{EachThere, HoldsAll, HoldsMore, OnlyAmong, after_finish, after_making};
+ghost use Rattle.gob_stage.specs.Stages.{EachThere, HoldsAll, HoldsMore, OnlyAmong, after_sync_calls, after_making};
 ghost use Rattle.gob_stage.specs.Stages.{after_staging, after_syncs};
 
 use crate::StageFault;
@@ -34,13 +34,13 @@ pub struct Attempt {
 impl Model for Attempt {
     ghost use Rattle.gob_bytes.specs.Tables.{names_of};
     ghost use Rattle.gob_stage.specs.Attempt.{AttemptValue};
-    ghost use Rattle.gob_stage.specs.Inside.{IsKept};
+    ghost use Rattle.gob_stage.specs.Inside.{AreStagingTargets};
 
     ghost Value = { AttemptValue };
 
     ghost view = { λ a. record { job = a.job; folder = a.folder; begun = names_of a.files.items } };
 
-    ghost invariant = { λ a. IsKept a.folder a.files.items };
+    ghost invariant = { λ a. AreStagingTargets a.folder a.files.items };
 }
 
 impl Attempt {
@@ -127,7 +127,7 @@ impl Attempt {
         requires { IfSome (V.disk volume.old) (λ d. AreThere self d.files) }
         ensures files { IfOk result (λ files. files ≡ staged_files self) }
         ensures order { IfOk result (λ files. IsInByteOrder (map (λ f. f.to) files)) }
-        ensures disk { OnOk result (V.disk volume.new ≡ option_map (after_finish self) (V.disk volume.old)) }
+        ensures disk { OnOk result (V.disk volume.new ≡ option_map (after_sync_calls self) (V.disk volume.old)) }
         ensures holds { OnOk result (Both (HoldsAll self) (V.disk volume.old) (V.disk volume.new)) }
         ensures below { Along (OnlyBelow self.folder) (V.disk volume.old) (V.disk volume.new) }
         ensures cause { HasCause (V.faults volume.old) (V.faults volume.new) (result ≡ Err StageFault.Failed) }

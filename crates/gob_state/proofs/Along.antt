@@ -5,7 +5,7 @@ use Rattle.std.specs.declared.option.Option.{Option}
 use Rattle.std.specs.List.{flat_map}
 use Rattle.std.proofs.lemmas.List.Concat.{flat_map-append}
 use Rattle.std.proofs.lemmas.Option.{same_Some}
-use Rattle.gob_state.specs.Reads.{Reads}
+use Rattle.gob_state.specs.Reads.{ReadsSpelling}
 use Rattle.gob_state.proofs.Steps.{no_more}
 
 -- These stood at the front, and each list that fits as a whole, where the text goes on as it may, begins with them.
@@ -30,7 +30,7 @@ at_start old good = record { good = good; spelled = refl; only = λ ys after w g
 -- one that is there
 first_read : {X : Type 0} {s : X → List ℕ} {F : X → Type 0} {H : List ℕ → Type 0} {Whole : List X → Type 0}
     {G : List ℕ → Type 0} (rest new : List ℕ) (xs : List X) (o : Option X)
-    → OneMore s F H Whole G rest xs → Reads s F H rest new o → (zs : List X) (after : List ℕ) → Whole (xs ++ zs)
+    → OneMore s F H Whole G rest xs → ReadsSpelling s F H rest new o → (zs : List X) (after : List ℕ) → Whole (xs ++ zs)
     → G after → rest ≡ flat_map s zs ++ after
     → (z : X) × (later : List X) × (zs ≡ z ∷ later) × (o ≡ Some z) × (new ≡ flat_map s later ++ after)
 first_read {X} {s} {F} {H} {Whole} {G} rest new xs o m r [] after w g e =
@@ -42,7 +42,7 @@ first_read {X} {s} {F} {H} {Whole} {G} rest new xs o m r (z ∷ zs) after w g e 
 
 pub one_more : {X : Type 0} {s : X → List ℕ} {F : X → Type 0} {H : List ℕ → Type 0} {Good Whole : List X → Type 0}
     {G : List ℕ → Type 0} (old rest new : List ℕ) (xs : List X) (x : X)
-    → Along s Good Whole G old rest xs → OneMore s F H Whole G rest xs → Reads s F H rest new (Some x)
+    → Along s Good Whole G old rest xs → OneMore s F H Whole G rest xs → ReadsSpelling s F H rest new (Some x)
     → Good (xs ++ x ∷ []) → Along s Good Whole G old new (xs ++ x ∷ [])
 one_more {X} {s} {F} {H} {Good} {Whole} {G} old rest new xs x a m r good = record {
   good = good;
@@ -62,10 +62,10 @@ one_more {X} {s} {F} {H} {Good} {Whole} {G} old rest new xs x a m r good = recor
 -- where one more isn't there, no list is
 pub one_missing : {X : Type 0} {s : X → List ℕ} {F : X → Type 0} {H : List ℕ → Type 0} {Good Whole : List X → Type 0}
     {G : List ℕ → Type 0} (old rest mid new : List ℕ) (xs : List X) (o : Option X) (r : Option (List X))
-    → Along s Good Whole G old rest xs → OneMore s F H Whole G rest xs → Reads s F H rest mid o → o ≡ None → r ≡ None
-    → Reads (λ ys. flat_map s ys) Whole G old new r
+    → Along s Good Whole G old rest xs → OneMore s F H Whole G rest xs → ReadsSpelling s F H rest mid o → o ≡ None → r ≡ None
+    → ReadsSpelling (λ ys. flat_map s ys) Whole G old new r
 one_missing {X} {s} {F} {H} {Good} {Whole} {G} old rest mid new xs o r a m b none is =
-    subst (Reads (λ ys. flat_map s ys) Whole G old new) (sym is) (record {
+    subst (ReadsSpelling (λ ys. flat_map s ys) Whole G old new) (sym is) (record {
       spelled = tt;
       read = λ ys after w g e.
           let p = a.only ys after w g e in
@@ -78,7 +78,7 @@ pub all_read : {X : Type 0} {s : X → List ℕ} {Good Whole : List X → Type 0
     (xs : List X) → Along s Good Whole G old rest xs → Whole xs
     → ((z : X) (zs : List X) (after : List ℕ) → Whole (xs ++ z ∷ zs) → G after
     → rest ≡ s z ++ (flat_map s zs ++ after) → ⊥)
-    → Reads (λ ys. flat_map s ys) Whole G old rest (Some xs)
+    → ReadsSpelling (λ ys. flat_map s ys) Whole G old rest (Some xs)
 all_read {X} {s} {Good} {Whole} {G} old rest xs a whole stop = record {
   spelled = (whole, a.spelled);
   read = λ ys after w g e. ended ys after w g (a.only ys after w g e);

@@ -12,8 +12,8 @@ use Rattle.gob_plan.specs.declared.units.BranchCounts.{BranchCounts}
 use Rattle.gob_plan.specs.declared.units.Counts.{Counts}
 use Rattle.gob_ledger.specs.Spelling.{SmallBranch, branch_line, totals_text}
 use Rattle.gob_text.specs.Words.{GoesOnAtAll, TakesText}
-use Rattle.gob_state.specs.Reads.{Reads, spaced_four, SmallFour}
-use Rattle.gob_state.specs.Counts.{branch_lines, AreBranches, AreTotals, NoBranch}
+use Rattle.gob_state.specs.Reads.{ReadsSpelling, spaced_four, SmallFour}
+use Rattle.gob_state.specs.Counts.{branch_count_lines, AreBranches, AreTotals, NoBranch}
 use Rattle.gob_state.proofs.Steps.{Pairing, no_more}
 use Rattle.gob_state.proofs.Along.{Along, OneMore, one_more, one_missing, all_read}
 use Rattle.gob_state.proofs.SettingLemmas.{each_push, longer}
@@ -76,8 +76,8 @@ small_four e i b = (i, (b.written, (b.errors, b.optional)))
 -- the branch that four numbers tell, where the first is its index
 pub branch_of_four : (i : ℕ) (rest mid new : List ℕ) (t : Bool) (n w e o : ℕ) → i < 8
     → TakesText (codes "branch") rest mid t → t ≡ true
-    → Reads spaced_four SmallFour GoesOnAtAll mid new (Some (n, w, e, o)) → n ≡ i
-    → Reads branch_line (IsBranchAt i) GoesOnAtAll rest new (Some (i, record { written = w; errors = e; optional = o }))
+    → ReadsSpelling spaced_four SmallFour GoesOnAtAll mid new (Some (n, w, e, o)) → n ≡ i
+    → ReadsSpelling branch_line (IsBranchAt i) GoesOnAtAll rest new (Some (i, record { written = w; errors = e; optional = o }))
 branch_of_four i rest mid new t n w e o few text taken r same = record {
   spelled = (
     (refl, record { written = r.spelled.0.1.0; errors = r.spelled.0.1.1.0; optional = r.spelled.0.1.1.1 }),
@@ -108,8 +108,8 @@ branch_of_four i rest mid new t n w e o few text taken r same = record {
 -- the numbers aren't there
 pub four_missing : (i : ℕ) (rest mid new any : List ℕ) (t : Bool) (q : Option (ℕ × ℕ × ℕ × ℕ)) → i < 8
     → TakesText (codes "branch") rest mid t → t ≡ true
-    → Reads spaced_four SmallFour GoesOnAtAll mid new q → q ≡ None
-    → Reads branch_line (IsBranchAt i) GoesOnAtAll rest any None
+    → ReadsSpelling spaced_four SmallFour GoesOnAtAll mid new q → q ≡ None
+    → ReadsSpelling branch_line (IsBranchAt i) GoesOnAtAll rest any None
 four_missing i rest mid new any t q few text taken r none = record {
   spelled = tt;
   read = λ z after f g is.
@@ -125,8 +125,8 @@ four_missing i rest mid new any t q few text taken r none = record {
 -- the first of the numbers is another index
 pub index_differs : (i : ℕ) (rest mid new any : List ℕ) (t : Bool) (n w e o : ℕ) → i < 8
     → TakesText (codes "branch") rest mid t → t ≡ true
-    → Reads spaced_four SmallFour GoesOnAtAll mid new (Some (n, w, e, o)) → n ≢ i
-    → Reads branch_line (IsBranchAt i) GoesOnAtAll rest any None
+    → ReadsSpelling spaced_four SmallFour GoesOnAtAll mid new (Some (n, w, e, o)) → n ≢ i
+    → ReadsSpelling branch_line (IsBranchAt i) GoesOnAtAll rest any None
 index_differs i rest mid new any t n w e o few text taken r apart = record {
   spelled = tt;
   read = λ z after f g is.
@@ -142,7 +142,7 @@ index_differs i rest mid new any t n w e o few text taken r apart = record {
 
 pub next_branch : (i : ℕ) (old rest mid new : List ℕ) (bs : List BranchCounts) (b : BranchCounts)
     → SomeBranches old rest bs i → rest ≡ codes "branch" ++ mid
-    → Reads branch_line (IsBranchAt i) GoesOnAtAll rest new (Some (i, b)) → SomeBranches old new (bs ++ b ∷ []) (i + 1)
+    → ReadsSpelling branch_line (IsBranchAt i) GoesOnAtAll rest new (Some (i, b)) → SomeBranches old new (bs ++ b ∷ []) (i + 1)
 next_branch i old rest mid new bs b some there r =
     let place : (i, b) ≡ (0 + length bs, b) = ap (λ k. (k, b)) (let c = some.count in let e : i ≡ 0 + length bs =
     omega arith in e) in
@@ -157,8 +157,8 @@ next_branch i old rest mid new bs b some there r =
 
 -- lines read as branches
 as_branches : (old new : List ℕ) (bs : List BranchCounts) → AreBranches bs
-    → Reads (λ es. flat_map branch_line es) AreLines NoBranch old new (Some (enumerate_from 0 bs))
-    → Reads branch_lines AreBranches NoBranch old new (Some bs)
+    → ReadsSpelling (λ es. flat_map branch_line es) AreLines NoBranch old new (Some (enumerate_from 0 bs))
+    → ReadsSpelling branch_count_lines AreBranches NoBranch old new (Some bs)
 as_branches old new bs are r = record {
   spelled = (are, r.spelled.1);
   read = λ cs after f g e.
@@ -175,8 +175,8 @@ as_branches old new bs are r = record {
         let later : enumerate_from (i + 1) bs ≡ enumerate_from (i + 1) cs = cc in
         (λ j. ap (λ (p : Indexed). p.1) pair j ∷ same_branches (i + 1) bs cs later j)
 
-as_no_branches : (old new : List ℕ) → Reads (λ es. flat_map branch_line es) AreLines NoBranch old new None
-    → Reads branch_lines AreBranches NoBranch old new None
+as_no_branches : (old new : List ℕ) → ReadsSpelling (λ es. flat_map branch_line es) AreLines NoBranch old new None
+    → ReadsSpelling branch_count_lines AreBranches NoBranch old new None
 as_no_branches old new r = record {
   spelled = tt;
   read = λ cs after f g e. absurd (no_more (enumerate_from 0 cs) (r.read (enumerate_from 0 cs) after
@@ -185,7 +185,7 @@ as_no_branches old new r = record {
 
 pub branch_missing : (i : ℕ) (old rest mid any new : List ℕ) (bs : List BranchCounts)
     → SomeBranches old rest bs i → rest ≡ codes "branch" ++ mid
-    → Reads branch_line (IsBranchAt i) GoesOnAtAll rest any None → Reads branch_lines AreBranches NoBranch old new None
+    → ReadsSpelling branch_line (IsBranchAt i) GoesOnAtAll rest any None → ReadsSpelling branch_count_lines AreBranches NoBranch old new None
 branch_missing i old rest mid any new bs some there r = as_no_branches old new
     (one_missing old rest any new (enumerate_from 0 bs) None None some.along
     (one_more_branch i rest mid bs some.count there) r refl refl)
@@ -193,9 +193,9 @@ branch_missing i old rest mid any new bs some there r = as_no_branches old new
 -- where no branch follows, all are read
 pub branches_end : (i : ℕ) (old rest new : List ℕ) (bs : List BranchCounts) (t : Bool) → SomeBranches old rest bs i
     → 0 < i → i ≤ 8 → TakesText (codes "branch") rest new t → t ≡ false
-    → Reads branch_lines AreBranches NoBranch old new (Some bs)
+    → ReadsSpelling branch_count_lines AreBranches NoBranch old new (Some bs)
 branches_end i old rest new bs t some one few text gone =
-    subst (λ x. Reads branch_lines AreBranches NoBranch old x (Some bs)) (sym (text.unchanged gone))
+    subst (λ x. ReadsSpelling branch_count_lines AreBranches NoBranch old x (Some bs)) (sym (text.unchanged gone))
     (as_branches old rest bs are (all_read old rest (enumerate_from 0 bs) some.along (bs, are, refl)
     (λ z zs after w g e. true≢false (sym (text.read (spaced_four (as_four z) ++ (flat_map branch_line zs ++ after))
     (split z zs after e)).0 ∙ gone))))
@@ -214,7 +214,7 @@ branches_end i old rest new bs t some one few text gone =
 
 -- no branch at all
 pub no_branch_at_all : (old rest new : List ℕ) (t : Bool) → SomeBranches old rest [] 0
-    → TakesText (codes "branch") rest new t → t ≡ false → Reads branch_lines AreBranches NoBranch old new None
+    → TakesText (codes "branch") rest new t → t ≡ false → ReadsSpelling branch_count_lines AreBranches NoBranch old new None
 no_branch_at_all old rest new t some text gone = record {
   spelled = tt;
   read = λ cs after f g e.
@@ -235,7 +235,7 @@ no_branch_at_all old rest new t some text gone = record {
 
 -- eight branches are all
 pub eight_branches : (old rest : List ℕ) (bs : List BranchCounts) → SomeBranches old rest bs 8
-    → Reads branch_lines AreBranches NoBranch old rest (Some bs)
+    → ReadsSpelling branch_count_lines AreBranches NoBranch old rest (Some bs)
 eight_branches old rest bs some = as_branches old rest bs are (all_read old rest (enumerate_from 0 bs) some.along
     (bs, are, refl)
     (λ z zs after w g e.
@@ -253,8 +253,8 @@ eight_branches old rest bs some = as_branches old rest bs are (all_read old rest
 -- ---- totals
 
 -- totals are four numbers, and then the branches
-abbrev pub totals_pairing : Pairing spaced_four SmallFour GoesOnAtAll (λ n bs. branch_lines bs) (λ n bs. AreBranches bs)
-    (λ c. spaced_four (c.records, c.bad, c.rows, c.unrouted) ++ branch_lines c.branches) AreTotals NoBranch
+abbrev pub totals_pairing : Pairing spaced_four SmallFour GoesOnAtAll (λ n bs. branch_count_lines bs) (λ n bs. AreBranches bs)
+    (λ c. spaced_four (c.records, c.bad, c.rows, c.unrouted) ++ branch_count_lines c.branches) AreTotals NoBranch
 totals_pairing = record {
   to = λ n bs. record { records = n.0; bad = n.1; rows = n.2; unrouted = n.3; branches = bs };
   first = λ c. (c.records, c.bad, c.rows, c.unrouted);
@@ -271,14 +271,14 @@ totals_pairing = record {
 }
 
 pub totals_spelled : (c : Counts)
-    → totals_text c ≡ codes "totals" ++ (spaced_four (c.records, c.bad, c.rows, c.unrouted) ++ branch_lines c.branches)
+    → totals_text c ≡ codes "totals" ++ (spaced_four (c.records, c.bad, c.rows, c.unrouted) ++ branch_count_lines c.branches)
 totals_spelled c = append_assoc (codes "totals") (spaced_four (c.records, c.bad, c.rows, c.unrouted))
-    (branch_lines c.branches)
+    (branch_count_lines c.branches)
 
 -- no branch at the first place
 pub none_at_first : (i : ℕ) (old rest new : List ℕ) (bs : List BranchCounts) (t : Bool) → SomeBranches old rest bs i
     → i ≡ 0
-    → TakesText (codes "branch") rest new t → t ≡ false → Reads branch_lines AreBranches NoBranch old new None
+    → TakesText (codes "branch") rest new t → t ≡ false → ReadsSpelling branch_count_lines AreBranches NoBranch old new None
 none_at_first i old rest new [] t some first text gone =
     no_branch_at_all old rest new t (subst (SomeBranches old rest []) first some) text gone
 none_at_first i old rest new (b ∷ bs) t some first text gone = let c = some.count in absurd (omega arith)

@@ -9,7 +9,7 @@ use Rattle.std.proofs.lemmas.List.Elements.{All-from_recursion, recursion_from_A
 use Rattle.std.proofs.lemmas.Option.{same_Some}
 use Rattle.gob_bytes.proofs.Tables.{at_from_member, member_from_at}
 use Rattle.gob_bytes.specs.Tables.{Table}
-use Rattle.gob_bytes.specs.Words.{numbered}
+use Rattle.gob_bytes.specs.Words.{numbered_line}
 use Rattle.gob_plan.specs.declared.units.Counts.{Counts}
 use Rattle.gob_ledger.specs.Marks.{Marks}
 use Rattle.gob_ledger.specs.Spelling.{Version, version_1, version_2, FitsVersion, IsKeptPipeline}
@@ -25,7 +25,7 @@ use Rattle.gob_state.specs.Files.{count_line, CountFits, ArePipelinesOf, counted
 use Rattle.gob_state.specs.Files.{state_rest, IsToldBy, NoStateIn}
 use Rattle.gob_state.specs.Parts.{AreParts, IsPart, NoPart}
 use Rattle.gob_state.specs.Ranges.{IndexIs}
-use Rattle.gob_state.specs.Reads.{Reads}
+use Rattle.gob_state.specs.Reads.{ReadsSpelling}
 use Rattle.gob_state.specs.Settings.{ArePipelines}
 use Rattle.gob_state.specs.Versions.{version_line, version_of, AnyVersion}
 use Rattle.gob_state.specs.declared.version.Version.{Version as CodeVersion}
@@ -41,7 +41,7 @@ AreKept v ps = AllByRecursion IsKeptPipeline ps × CountFits v (length ps)
 pub pipelines_spelled : (v : Version) (n : ℕ) (ps : List (List ℕ)) → length ps ≡ n
     → pipelines_text v ps ≡ count_line v n ++ flat_map pipeline_part ps
 pipelines_spelled version_1 n ps e = refl
-pipelines_spelled version_2 n ps e = ap (λ k. numbered (codes "pipelines") (k ∷ []) ++ flat_map pipeline_part ps) e
+pipelines_spelled version_2 n ps e = ap (λ k. numbered_line (codes "pipelines") (k ∷ []) ++ flat_map pipeline_part ps) e
 
 abbrev pub pipelines_pairing : (v : Version) → Pairing (count_line v) (CountFits v) GoesOnAtAll
     (λ n ps. flat_map pipeline_part ps) (λ n ps. ArePipelines n ps) (pipelines_text v) (AreKept v) GoesOnAtAll
@@ -169,7 +169,7 @@ rest_of v s told =
           own.begun,
         )
 
-abbrev pub state_pairing : (v : Version) → Pairing (λ n. numbered (codes "run") (n ∷ [])) (λ n. n < 2 ^ 64) GoesOnAtAll
+abbrev pub state_pairing : (v : Version) → Pairing (λ n. numbered_line (codes "run") (n ∷ [])) (λ n. n < 2 ^ 64) GoesOnAtAll
     (λ n z. rest_text v z) (λ n z. AreRest v z) (state_rest v) (IsToldBy v) NoPart
 state_pairing v = record {
   to = λ n z. record { run = n; pipelines = z.0; totals = z.1.0; parts = z.1.1 };
@@ -192,7 +192,7 @@ regrouped a b p t q e n = simp append_assoc
 state_parts : (v : CodeVersion) (s : states.State) → state_spelling (version_of v) s
     ≡ version_line (codes "gobblin-state") v ++ (state_rest (version_of v) s ++ (codes "end" ++ 10 ∷ []))
 unfolding state_spelling
-state_parts v s = regrouped (version_line (codes "gobblin-state") v) (numbered (codes "run") (s.run ∷ []))
+state_parts v s = regrouped (version_line (codes "gobblin-state") v) (numbered_line (codes "run") (s.run ∷ []))
     (pipelines_text (version_of v) s.pipelines) (totals_text s.totals) (parts_text (version_of v) s.parts) (codes "end")
     (10 ∷ [])
 
@@ -223,7 +223,7 @@ begins : (bytes : List ℕ) (v : CodeVersion) (s : states.State) → ReadsAs (ve
 begins bytes v s r = r.spelled ∙ state_parts v s
 
 pub no_version : (bytes mid : List ℕ) (o : Option CodeVersion)
-    → Reads (version_line (codes "gobblin-state")) AnyVersion GoesOnAtAll bytes mid o → o ≡ None → NoStateIn bytes
+    → ReadsSpelling (version_line (codes "gobblin-state")) AnyVersion GoesOnAtAll bytes mid o → o ≡ None → NoStateIn bytes
 no_version bytes mid o r none v s is =
     let told = subst (λ w. ReadsAs w bytes s) (sym (version_back v)) is in
     no_more (code_of v)
@@ -232,7 +232,7 @@ no_version bytes mid o r none v s is =
 
 -- the version is the one that was read
 same_version : (bytes mid : List ℕ) (v : CodeVersion) (w : Version) (s : states.State)
-    → Reads (version_line (codes "gobblin-state")) AnyVersion GoesOnAtAll bytes mid (Some v) → ReadsAs w bytes s
+    → ReadsSpelling (version_line (codes "gobblin-state")) AnyVersion GoesOnAtAll bytes mid (Some v) → ReadsAs w bytes s
     → ReadsAs (version_of v) bytes s × (mid ≡ state_rest (version_of v) s ++ (codes "end\n" ++ []))
 same_version bytes mid v w s r is =
     let told = subst (λ x. ReadsAs x bytes s) (sym (version_back w)) is in
@@ -245,35 +245,35 @@ same_version bytes mid v w s r is =
 
 -- what is read of what stands between the first line and the last
 between : (bytes mid rest : List ℕ) (v : CodeVersion) (w : Version) (o : Option states.State) (s : states.State)
-    → Reads (version_line (codes "gobblin-state")) AnyVersion GoesOnAtAll bytes mid (Some v)
-    → Reads (state_rest (version_of v)) (IsToldBy (version_of v)) NoPart mid rest o → ReadsAs w bytes s
+    → ReadsSpelling (version_line (codes "gobblin-state")) AnyVersion GoesOnAtAll bytes mid (Some v)
+    → ReadsSpelling (state_rest (version_of v)) (IsToldBy (version_of v)) NoPart mid rest o → ReadsAs w bytes s
     → (o ≡ Some s) × (rest ≡ codes "end\n" ++ [])
 between bytes mid rest v w o s r q is =
     let told = same_version bytes mid v w s r is in
     q.read s (codes "end\n" ++ []) (told.0.proper, told.0.fits) (no_part_at_end []) told.1
 
 pub no_state : (bytes mid rest : List ℕ) (v : CodeVersion) (o : Option states.State)
-    → Reads (version_line (codes "gobblin-state")) AnyVersion GoesOnAtAll bytes mid (Some v)
-    → Reads (state_rest (version_of v)) (IsToldBy (version_of v)) NoPart mid rest o → o ≡ None → NoStateIn bytes
+    → ReadsSpelling (version_line (codes "gobblin-state")) AnyVersion GoesOnAtAll bytes mid (Some v)
+    → ReadsSpelling (state_rest (version_of v)) (IsToldBy (version_of v)) NoPart mid rest o → o ≡ None → NoStateIn bytes
 no_state bytes mid rest v o r q none w s is = no_more s (sym none ∙ (between bytes mid rest v w o s r q is).0)
 
 pub no_end : (bytes mid rest last : List ℕ) (v : CodeVersion) (s : states.State) (t : Bool)
-    → Reads (version_line (codes "gobblin-state")) AnyVersion GoesOnAtAll bytes mid (Some v)
-    → Reads (state_rest (version_of v)) (IsToldBy (version_of v)) NoPart mid rest (Some s)
+    → ReadsSpelling (version_line (codes "gobblin-state")) AnyVersion GoesOnAtAll bytes mid (Some v)
+    → ReadsSpelling (state_rest (version_of v)) (IsToldBy (version_of v)) NoPart mid rest (Some s)
     → TakesText (codes "end\n") rest last t → t ≡ false → NoStateIn bytes
 no_end bytes mid rest last v s t r q text gone w u is =
     true≢false (sym (text.read [] (between bytes mid rest v w (Some s) u r q is).1).0 ∙ gone)
 
 pub more_behind : (bytes mid rest last : List ℕ) (v : CodeVersion) (s : states.State) (t : Bool)
-    → Reads (version_line (codes "gobblin-state")) AnyVersion GoesOnAtAll bytes mid (Some v)
-    → Reads (state_rest (version_of v)) (IsToldBy (version_of v)) NoPart mid rest (Some s)
+    → ReadsSpelling (version_line (codes "gobblin-state")) AnyVersion GoesOnAtAll bytes mid (Some v)
+    → ReadsSpelling (state_rest (version_of v)) (IsToldBy (version_of v)) NoPart mid rest (Some s)
     → TakesText (codes "end\n") rest last t → (last ≡ [] → ⊥) → NoStateIn bytes
 more_behind bytes mid rest last v s t r q text more w u is =
     more (text.read [] (between bytes mid rest v w (Some s) u r q is).1).1
 
 pub state_read : (bytes mid rest last : List ℕ) (v : CodeVersion) (s : states.State) (t : Bool)
-    → Reads (version_line (codes "gobblin-state")) AnyVersion GoesOnAtAll bytes mid (Some v)
-    → Reads (state_rest (version_of v)) (IsToldBy (version_of v)) NoPart mid rest (Some s)
+    → ReadsSpelling (version_line (codes "gobblin-state")) AnyVersion GoesOnAtAll bytes mid (Some v)
+    → ReadsSpelling (state_rest (version_of v)) (IsToldBy (version_of v)) NoPart mid rest (Some s)
     → TakesText (codes "end\n") rest last t → t ≡ true → last ≡ [] → ReadsAs (version_of v) bytes s
 state_read bytes mid rest last v s t r q text taken done = record {
   spelled = r.spelled.1 ∙ ap (λ x. version_line (codes "gobblin-state") v ++ x)

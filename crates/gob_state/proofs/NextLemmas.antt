@@ -23,7 +23,7 @@ use Rattle.gob_ledger.specs.Next.{Judged, add_unit, allowed_units, allows, count
 use Rattle.gob_ledger.specs.Next.{next_state, no_marks, pipeline_index, plus, state_with_commit, state_with_commit_or}
 use Rattle.gob_ledger.specs.Next.{with_done, with_owed, with_pipeline}
 use Rattle.gob_ledger.specs.Spelling.{IsKeptPipeline, Proper}
-use Rattle.gob_ledger.specs.State.{State, TiledState, empty_state, no_branch}
+use Rattle.gob_ledger.specs.State.{State, TiledState, empty_state, no_branch_counts}
 use Rattle.gob_ledger.specs.Units.{AreAdjacentFrom, IsOwed, UnitsFit, fresh_in, next_of, same_span, same_unit, span_of}
 use Rattle.gob_ledger.proofs.Changes.{all_member, units_in, units_of_zip}
 use Rattle.gob_ledger.proofs.Members.{first_in, in_cases, in_filter, in_map, later_in, none_in}
@@ -33,24 +33,24 @@ use Rattle.gob_ledger.proofs.Tiling.{all_added, finish_keeps}
 use Rattle.gob_marks.specs.Changed.{change_marks, marks_in, next_span}
 use Rattle.gob_state.proofs.SettingLemmas.{at_drop}
 use Rattle.gob_state.proofs.WriteLemmas.{dropped_all}
-use Rattle.gob_state.specs.Committed.{AddsTo, AllOwed, AreKept, committed, judged_by, may_commit, part_added}
+use Rattle.gob_state.specs.Committed.{FreshUnitsFollow, AllOwed, AreKept, committed_units, judged_by, may_commit, part_added}
 use Rattle.gob_state.specs.Committed.{parts_added, parts_finished, pipelines_with, totals_plus, totals_sum, verdict_in}
 use Rattle.gob_state.specs.Committed.{verdicts_in}
 
 -- ---- the branches of the first state
 
-zeros_push : (a n : ℕ) → map (λ _. no_branch) (range_with_len a (n + 1)) ≡ map (λ _. no_branch) (range_with_len a n)
-    ++ no_branch ∷ []
-zeros_push a n = ap (λ k. map (λ _. no_branch) (range_with_len a k)) (let e : n + 1 ≡ suc n = omega arith in e) ∙ go a n
+zeros_push : (a n : ℕ) → map (λ _. no_branch_counts) (range_with_len a (n + 1)) ≡ map (λ _. no_branch_counts) (range_with_len a n)
+    ++ no_branch_counts ∷ []
+zeros_push a n = ap (λ k. map (λ _. no_branch_counts) (range_with_len a k)) (let e : n + 1 ≡ suc n = omega arith in e) ∙ go a n
   where
-    go : (a n : ℕ) → map (λ _. no_branch) (range_with_len a (suc n)) ≡ map (λ _. no_branch) (range_with_len a n)
-        ++ no_branch ∷ []
+    go : (a n : ℕ) → map (λ _. no_branch_counts) (range_with_len a (suc n)) ≡ map (λ _. no_branch_counts) (range_with_len a n)
+        ++ no_branch_counts ∷ []
     go a zero = refl
-    go a (suc n) = ap (λ (bs : List BranchCounts). no_branch ∷ bs) (go (a + 1) n)
+    go a (suc n) = ap (λ (bs : List BranchCounts). no_branch_counts ∷ bs) (go (a + 1) n)
 
-pub one_more_zero : (n : ℕ) (bs : List BranchCounts) → bs ≡ map (λ _. no_branch) (range_with_len 0 n)
-    → bs ++ no_branch ∷ [] ≡ map (λ _. no_branch) (range_with_len 0 (n + 1))
-one_more_zero n bs is = ap (λ cs. cs ++ no_branch ∷ []) is ∙ sym (zeros_push 0 n)
+pub one_more_zero : (n : ℕ) (bs : List BranchCounts) → bs ≡ map (λ _. no_branch_counts) (range_with_len 0 n)
+    → bs ++ no_branch_counts ∷ [] ≡ map (λ _. no_branch_counts) (range_with_len 0 (n + 1))
+one_more_zero n bs is = ap (λ cs. cs ++ no_branch_counts ∷ []) is ∙ sym (zeros_push 0 n)
 
 -- ---- fresh units
 
@@ -85,14 +85,14 @@ not_fresh u us q (inr other) = ap (λ b. cond (u.fresh && b) (u ∷ fresh_in q u
     off false = refl
 
 -- a fresh unit begins where its partition ends
-pub begins_at_end : (parts : Table Marks) (u : WorkUnit) (us : List WorkUnit) → AddsTo parts (u ∷ us) → u.fresh ≡ true
+pub begins_at_end : (parts : Table Marks) (u : WorkUnit) (us : List WorkUnit) → FreshUnitsFollow parts (u ∷ us) → u.fresh ≡ true
     → (u.lo ≡ (marks_in parts u.part).next) × (u.lo < u.hi)
 begins_at_end parts u us adds fresh =
     let first = subst (AreAdjacentFrom (next_of parts u.part)) (fresh_first u us u.part fresh (name_itself u.part))
     (adds u.part) in
     (first.0 ∙ next_marks parts u.part, first.1)
 
-pub added_fresh : (parts : Table Marks) (u : WorkUnit) (us : List WorkUnit) (new : Table Marks) → AddsTo parts (u ∷ us)
+pub added_fresh : (parts : Table Marks) (u : WorkUnit) (us : List WorkUnit) (new : Table Marks) → FreshUnitsFollow parts (u ∷ us)
     → u.fresh ≡ true → new ≡ change_marks (with_owed (next_span (marks_in parts u.part) u.hi)) u.part parts
     → new ≡ part_added parts u
 added_fresh parts u us new adds fresh is =
@@ -116,8 +116,8 @@ next_after parts u q =
     cases false = refl
 
 -- the units behind follow on
-pub adds_next : (parts : Table Marks) (u : WorkUnit) (us : List WorkUnit) → AddsTo parts (u ∷ us)
-    → AddsTo (part_added parts u) us
+pub adds_next : (parts : Table Marks) (u : WorkUnit) (us : List WorkUnit) → FreshUnitsFollow parts (u ∷ us)
+    → FreshUnitsFollow (part_added parts u) us
 adds_next parts u us adds q = cases u.fresh refl
   where
     there : (c : Bool) → bytes_eq q u.part ≡ c → u.fresh ≡ true
@@ -138,7 +138,7 @@ adds_next parts u us adds q = cases u.fresh refl
 -- some of the units are added
 pub record Adding (first parts : Table Marks) (units : List WorkUnit) (i : ℕ) : Type 0 where
   pub same : parts_added parts (drop i units) ≡ parts_added first units
-  pub adds : AddsTo parts (drop i units)
+  pub adds : FreshUnitsFollow parts (drop i units)
 
 pub one_added : (first parts new : Table Marks) (units : List WorkUnit) (i : ℕ) (u : WorkUnit)
     → Adding first parts units i
@@ -147,14 +147,14 @@ one_added first parts new units i u a below is new_is =
     let rest = at_drop units i u below is in
     subst (λ (t : Table Marks). Adding first t units (i + 1)) (sym new_is) (record {
       same = sym (ap (parts_added parts) rest) ∙ a.same;
-      adds = adds_next parts u (drop (i + 1) units) (subst (AddsTo parts) rest a.adds);
+      adds = adds_next parts u (drop (i + 1) units) (subst (FreshUnitsFollow parts) rest a.adds);
     })
 
 pub fresh_begins : (first parts : Table Marks) (units : List WorkUnit) (i : ℕ) (u : WorkUnit)
     → Adding first parts units i
     → i < length units → u ≡ get_or units i u → u.fresh ≡ true → (u.lo ≡ (marks_in parts u.part).next) × (u.lo < u.hi)
 fresh_begins first parts units i u a below is fresh =
-    begins_at_end parts u (drop (i + 1) units) (subst (AddsTo parts) (at_drop units i u below is) a.adds) fresh
+    begins_at_end parts u (drop (i + 1) units) (subst (FreshUnitsFollow parts) (at_drop units i u below is) a.adds) fresh
 
 pub fresh_added : (first parts new : Table Marks) (units : List WorkUnit) (i : ℕ) (u : WorkUnit)
     → Adding first parts units i
@@ -163,7 +163,7 @@ pub fresh_added : (first parts new : Table Marks) (units : List WorkUnit) (i : �
     (i + 1)
 fresh_added first parts new units i u a below is fresh made =
     one_added first parts new units i u a below is
-    (added_fresh parts u (drop (i + 1) units) new (subst (AddsTo parts) (at_drop units i u below is) a.adds) fresh made)
+    (added_fresh parts u (drop (i + 1) units) new (subst (FreshUnitsFollow parts) (at_drop units i u below is) a.adds) fresh made)
 
 pub old_added : (first parts : Table Marks) (units : List WorkUnit) (i : ℕ) (u : WorkUnit) → Adding first parts units i
     → i < length units → u ≡ get_or units i u → u.fresh ≡ false → Adding first parts units (i + 1)
@@ -222,27 +222,27 @@ second_of (u ∷ us) [] e = absurd (omega arith)
 second_of (u ∷ us) (v ∷ vs) e = ap (λ (ws : List Verdict). v ∷ ws) (second_of us vs (omega arith))
 
 allowed_are : (policy : CommitPolicy) (units : List WorkUnit) (vs : List Verdict) → length vs ≡ length units
-    → allowed_units policy (zip units vs) ≡ committed policy (list_all is_good vs) (zip units vs)
+    → allowed_units policy (zip units vs) ≡ committed_units policy (list_all is_good vs) (zip units vs)
 allowed_are Full units vs e = ap (λ (ws : List Verdict). filter (λ (j : Judged). list_all is_good ws) (zip units vs))
     (second_of units vs e)
 allowed_are Successful units vs e = refl
 
 -- none may be committed
 none_committed : (policy : CommitPolicy) (all : Bool) (units : List WorkUnit) (vs : List Verdict)
-    → list_any (may_commit policy all) vs ≡ false → committed policy all (zip units vs) ≡ []
+    → list_any (may_commit policy all) vs ≡ false → committed_units policy all (zip units vs) ≡ []
 none_committed policy all [] vs e = refl
 none_committed policy all (u ∷ us) [] e = refl
 none_committed policy all (u ∷ us) (v ∷ vs) e = cases (may_commit policy all v) e (none_committed policy all us vs)
   where
     cases : (b : Bool) → (b || list_any (may_commit policy all) vs) ≡ false
-        → (list_any (may_commit policy all) vs ≡ false → committed policy all (zip us vs) ≡ [])
-        → cond b ((u, v) ∷ committed policy all (zip us vs)) (committed policy all (zip us vs)) ≡ []
+        → (list_any (may_commit policy all) vs ≡ false → committed_units policy all (zip us vs) ≡ [])
+        → cond b ((u, v) ∷ committed_units policy all (zip us vs)) (committed_units policy all (zip us vs)) ≡ []
     cases true is later = let never : true ≡ false = is in cc
     cases false is later = later is
 
 some_committed : (policy : CommitPolicy) (all : Bool) (units : List WorkUnit) (vs : List Verdict) → length vs
     ≡ length units
-    → list_any (may_commit policy all) vs ≡ true → committed policy all (zip units vs) ≢ []
+    → list_any (may_commit policy all) vs ≡ true → committed_units policy all (zip units vs) ≢ []
 some_committed policy all [] [] e any none = let never : false ≡ true = any in cc
 some_committed policy all [] (v ∷ vs) e any none = absurd (omega arith)
 some_committed policy all (u ∷ us) [] e any none = absurd (omega arith)
@@ -250,23 +250,23 @@ some_committed policy all (u ∷ us) (v ∷ vs) e any none =
     cases (may_commit policy all v) any none (some_committed policy all us vs (omega arith))
   where
     cases : (b : Bool) → (b || list_any (may_commit policy all) vs) ≡ true
-        → cond b ((u, v) ∷ committed policy all (zip us vs)) (committed policy all (zip us vs)) ≡ []
-        → (list_any (may_commit policy all) vs ≡ true → committed policy all (zip us vs) ≢ []) → ⊥
+        → cond b ((u, v) ∷ committed_units policy all (zip us vs)) (committed_units policy all (zip us vs)) ≡ []
+        → (list_any (may_commit policy all) vs ≡ true → committed_units policy all (zip us vs) ≢ []) → ⊥
     cases true is none later = cc
     cases false is none later = later is none
 
 totals_by : (policy : CommitPolicy) (all : Bool) (units : List WorkUnit) (vs : List Verdict) (c : Counts) → length vs
     ≡ length units
-    → totals_plus c (committed policy all (zip units vs)) ≡ totals_sum c (filter (may_commit policy all) vs)
+    → totals_plus c (committed_units policy all (zip units vs)) ≡ totals_sum c (filter (may_commit policy all) vs)
 totals_by policy all [] [] c e = refl
 totals_by policy all [] (v ∷ vs) c e = absurd (omega arith)
 totals_by policy all (u ∷ us) [] c e = absurd (omega arith)
 totals_by policy all (u ∷ us) (v ∷ vs) c e =
     cases (may_commit policy all v) (λ d. totals_by policy all us vs d (omega arith))
   where
-    cases : (b : Bool) → ((d : Counts) → totals_plus d (committed policy all (zip us vs)) ≡ totals_sum d
+    cases : (b : Bool) → ((d : Counts) → totals_plus d (committed_units policy all (zip us vs)) ≡ totals_sum d
         (filter (may_commit policy all) vs))
-        → totals_plus c (cond b ((u, v) ∷ committed policy all (zip us vs)) (committed policy all (zip us vs)))
+        → totals_plus c (cond b ((u, v) ∷ committed_units policy all (zip us vs)) (committed_units policy all (zip us vs)))
         ≡ totals_sum c (cond b (v ∷ filter (may_commit policy all) vs) (filter (may_commit policy all) vs))
     cases true later = later (plus c (counts_in v))
     cases false later = later c
@@ -304,7 +304,7 @@ next_of_parts s pipeline units results policy all = record {
   pipelines = pipelines_with pipeline s.pipelines;
   totals = totals_sum s.totals (filter (may_commit policy all) (verdicts_in results));
   parts = parts_finished (pipeline_index pipeline s) (parts_added s.parts units)
-      (committed policy all (judged_by units results));
+      (committed_units policy all (judged_by units results));
 }
 
 pub state_goes_on : (s : State) (pipeline : List ℕ) (units : List WorkUnit) (results : List UnitResult)
@@ -317,7 +317,7 @@ unfolding next_state
 state_goes_on s pipeline units results policy counted any =
     ap (state_with_commit_or s pipeline (judged_by units results))
     (allowed_are policy units (verdicts_in results) same)
-    ∙ cases (committed policy all (judged_by units results)) refl
+    ∙ cases (committed_units policy all (judged_by units results)) refl
   where
     all : Bool
     all = list_all is_good (verdicts_in results)
@@ -325,7 +325,7 @@ state_goes_on s pipeline units results policy counted any =
     same : length (verdicts_in results) ≡ length units
     same = length_verdicts results ∙ counted
 
-    made : (done : List Judged) → committed policy (list_all is_good (verdicts_in results)) (judged_by units results)
+    made : (done : List Judged) → committed_units policy (list_all is_good (verdicts_in results)) (judged_by units results)
         ≡ done
         → state_with_commit s pipeline (judged_by units results) done
         ≡ next_of_parts s pipeline units results policy (list_all is_good (verdicts_in results))
@@ -348,10 +348,10 @@ state_goes_on s pipeline units results policy counted any =
           parts = parts_finished p (parts_added s.parts units) (sym is i);
         })
 
-    cases : (done : List Judged) → committed policy (list_all is_good (verdicts_in results)) (judged_by units results)
+    cases : (done : List Judged) → committed_units policy (list_all is_good (verdicts_in results)) (judged_by units results)
         ≡ done
         → state_with_commit_or s pipeline (judged_by units results)
-        (committed policy (list_all is_good (verdicts_in results)) (judged_by units results))
+        (committed_units policy (list_all is_good (verdicts_in results)) (judged_by units results))
         ≡ next_of_parts s pipeline units results policy (list_all is_good (verdicts_in results))
     cases [] is = absurd (some_committed policy (list_all is_good (verdicts_in results)) units
         (verdicts_in results) same any is)
@@ -449,8 +449,8 @@ one_summed_more a b sums all i x here inv =
 -- some of the units are finished
 pub record Finishing (p : ℕ) (policy : CommitPolicy) (all : Bool) (first parts : Table Marks) (units : List WorkUnit)
     (results : List UnitResult) (i : ℕ) : Type 0 where
-  pub same : parts_finished p parts (committed policy all (judged_by (drop i units) (drop i results)))
-      ≡ parts_finished p first (committed policy all (judged_by units results))
+  pub same : parts_finished p parts (committed_units policy all (judged_by (drop i units) (drop i results)))
+      ≡ parts_finished p first (committed_units policy all (judged_by units results))
   pub owed : AllOwed parts (drop i units)
   pub once : IsDistinct same_unit (drop i units)
 
@@ -471,9 +471,9 @@ passed_over p policy all first parts units results i u r f bu br iu ir fails =
     let js : List Judged = judged_by (drop (i + 1) units) (drop (i + 1) results) in
     let rest = at_drop units i u bu iu in
     record {
-      same = sym (ap (λ b. parts_finished p parts (cond b ((u, verdict_in r) ∷ committed policy all js)
-          (committed policy all js))) fails)
-          ∙ sym (ap (λ ks. parts_finished p parts (committed policy all ks))
+      same = sym (ap (λ b. parts_finished p parts (cond b ((u, verdict_in r) ∷ committed_units policy all js)
+          (committed_units policy all js))) fails)
+          ∙ sym (ap (λ ks. parts_finished p parts (committed_units policy all ks))
           (judged_at units results i u r bu br iu ir)) ∙ f.same;
       owed = λ k h. f.owed k (subst (λ us. Contains us k) (sym rest) (later_in u (drop (i + 1) units) k h));
       once = (subst (IsDistinct same_unit) rest f.once).1;
@@ -504,9 +504,9 @@ one_finished p policy all first parts new units results i u r f bu br iu ir hold
     let rest = at_drop units i u bu iu in
     let apart = (subst (IsDistinct same_unit) rest f.once).0 in
     subst (λ t. Finishing p policy all first t units results (i + 1)) (sym made) (record {
-      same = sym (ap (λ b. parts_finished p parts (cond b ((u, verdict_in r) ∷ committed policy all js)
-          (committed policy all js))) holds)
-          ∙ sym (ap (λ ks. parts_finished p parts (committed policy all ks))
+      same = sym (ap (λ b. parts_finished p parts (cond b ((u, verdict_in r) ∷ committed_units policy all js)
+          (committed_units policy all js))) holds)
+          ∙ sym (ap (λ ks. parts_finished p parts (committed_units policy all ks))
           (judged_at units results i u r bu br iu ir)) ∙ f.same;
       owed = λ k h. keeps_owed p parts (u, verdict_in r) k (all_member (λ v. same_unit u v ≡ false)
           (drop (i + 1) units) k apart h)
@@ -562,7 +562,7 @@ pub next_made : (s : State) (pipeline : List ℕ) (units : List WorkUnit) (resul
     → ps ≡ pipelines_with pipeline s.pipelines
     → totals ≡ totals_sum s.totals (filter (may_commit policy all) (verdicts_in results)) → marks ≡ s.parts
     → added ≡ parts_added marks units
-    → finished ≡ parts_finished place added (committed policy all (judged_by units results))
+    → finished ≡ parts_finished place added (committed_units policy all (judged_by units results))
     → run ≡ saturate_u64 (s.run + 1)
     → record { run = run; pipelines = ps; totals = totals; parts = finished }
     ≡ next_state s pipeline units (verdicts_in results) policy
@@ -573,15 +573,15 @@ next_made s pipeline units results policy all any place run slice ps totals mark
     let sums = summed ∙ ap (λ a. totals_sum s.totals (filter (may_commit policy a) (verdicts_in results))) is_all in
     let adds = adding ∙ ap (λ t. parts_added t units) copied in
     let ends : finished ≡ parts_finished (pipeline_index pipeline s) (parts_added s.parts units)
-    (committed policy whole (judged_by units results)) =
-    finishing ∙ (λ j. parts_finished (index j) (adds j) (committed policy (is_all j) (judged_by units results))) in
+    (committed_units policy whole (judged_by units results)) =
+    finishing ∙ (λ j. parts_finished (index j) (adds j) (committed_units policy (is_all j) (judged_by units results))) in
     (λ j. record { run = running j; pipelines = piped j; totals = sums j; parts = ends j })
     ∙ sym (state_goes_on s pipeline units results policy counted
     (ap (λ a. list_any (may_commit policy a) (verdicts_in results)) (sym is_all) ∙ sym is_any ∙ some))
 
 -- the first state, as it is made
 pub empty_made : (branches counter : ℕ) (pipelines : List (List ℕ)) (counts : List BranchCounts) (parts : Table Marks)
-    → counter ≡ branches → pipelines ≡ [] → counts ≡ map (λ _. no_branch) (range_with_len 0 counter) → parts ≡ []
+    → counter ≡ branches → pipelines ≡ [] → counts ≡ map (λ _. no_branch_counts) (range_with_len 0 counter) → parts ≡ []
     → record {
       run = 0;
       pipelines = pipelines;
@@ -589,7 +589,7 @@ pub empty_made : (branches counter : ℕ) (pipelines : List (List ℕ)) (counts 
       parts = parts;
     } ≡ empty_state branches
 empty_made branches counter pipelines counts parts all none zeros nothing =
-    let level = zeros ∙ ap (λ n. map (λ (_ : ℕ). no_branch) (range_with_len 0 n)) all in
+    let level = zeros ∙ ap (λ n. map (λ (_ : ℕ). no_branch_counts) (range_with_len 0 n)) all in
     λ i. record {
       run = 0;
       pipelines = none i;

@@ -9,7 +9,7 @@ use Rattle.gob_bytes.specs.Tables.{Table, names_of, IsInByteOrder}
 use Rattle.gob_ledger.specs.Marks.{Marks}
 use Rattle.gob_ledger.specs.Spelling.{Version, part_text, parts_text}
 use Rattle.gob_text.specs.Words.{GoesOnAtAll, TakesText}
-use Rattle.gob_state.specs.Reads.{Reads}
+use Rattle.gob_state.specs.Reads.{ReadsSpelling}
 use Rattle.gob_state.specs.Ranges.{AreMarks, NoRange, ranges_text}
 use Rattle.gob_state.specs.Parts.{head_text, IsHead, part_rest, IsPart, AreParts, NoPart}
 use Rattle.gob_state.proofs.Steps.{Pairing, behind_text, refused, passed, not_even}
@@ -80,14 +80,14 @@ no_part_yet v n old = at_start old (tt, tt)
 
 -- the partition behind its word
 whole_part : (v : Version) (n : ℕ) (rest mid new : List ℕ) (t : Bool) (o : Option (List ℕ × Marks))
-    → TakesText (codes "partition") rest mid t → t ≡ true → Reads (part_rest v) (IsPart v n) NoRange mid new o
-    → Reads (part_text v) (IsPart v n) NoRange rest new o
+    → TakesText (codes "partition") rest mid t → t ≡ true → ReadsSpelling (part_rest v) (IsPart v n) NoRange mid new o
+    → ReadsSpelling (part_text v) (IsPart v n) NoRange rest new o
 whole_part v n rest mid new t o text taken r = behind_text (codes "partition") rest mid new t o
     (part_spelled v) text taken r
 
 pub next_part : (v : Version) (n : ℕ) (old rest mid new : List ℕ) (es : Table Marks) (e : List ℕ × Marks) (t : Bool)
     → SomeParts v n old rest es → TakesText (codes "partition") rest mid t → t ≡ true
-    → Reads (part_rest v) (IsPart v n) NoRange mid new (Some e) → IsInByteOrder (names_of es ++ e.0 ∷ [])
+    → ReadsSpelling (part_rest v) (IsPart v n) NoRange mid new (Some e) → IsInByteOrder (names_of es ++ e.0 ∷ [])
     → SomeParts v n old new (es ++ e ∷ [])
 unfolding SomeParts
 next_part v n old rest mid new es e t some text taken r order =
@@ -97,8 +97,8 @@ next_part v n old rest mid new es e t some text taken r order =
 
 pub part_missing : (v : Version) (n : ℕ) (old rest mid any new : List ℕ) (es : Table Marks) (t : Bool)
     → SomeParts v n old rest es → TakesText (codes "partition") rest mid t → t ≡ true
-    → Reads (part_rest v) (IsPart v n) NoRange mid any None
-    → Reads (parts_text v) (AreParts v n) NoPart old new None
+    → ReadsSpelling (part_rest v) (IsPart v n) NoRange mid any None
+    → ReadsSpelling (parts_text v) (AreParts v n) NoPart old new None
 unfolding SomeParts
 part_missing v n old rest mid any new es t some text taken r =
     one_missing old rest any new es None None some (one_more_part v n rest mid es (text.spelled taken))
@@ -107,8 +107,8 @@ part_missing v n old rest mid any new es t some text taken r =
 pub part_out_of_order : (v : Version) (n : ℕ) (old rest mid any new : List ℕ) (es : Table Marks) (e : List ℕ × Marks)
     (t : Bool)
     → SomeParts v n old rest es → TakesText (codes "partition") rest mid t → t ≡ true
-    → Reads (part_rest v) (IsPart v n) NoRange mid any (Some e) → (IsInByteOrder (names_of es ++ e.0 ∷ []) → ⊥)
-    → Reads (parts_text v) (AreParts v n) NoPart old new None
+    → ReadsSpelling (part_rest v) (IsPart v n) NoRange mid any (Some e) → (IsInByteOrder (names_of es ++ e.0 ∷ []) → ⊥)
+    → ReadsSpelling (parts_text v) (AreParts v n) NoPart old new None
 unfolding SomeParts
 part_out_of_order v n old rest mid any new es e t some text taken r never =
     one_missing old rest any new es None None some (one_more_part v n rest mid es (text.spelled taken))
@@ -118,10 +118,10 @@ part_out_of_order v n old rest mid any new es e t some text taken r never =
 
 pub parts_read : (v : Version) (n : ℕ) (old rest new : List ℕ) (es : Table Marks) (t : Bool)
     → SomeParts v n old rest es → TakesText (codes "partition") rest new t → t ≡ false
-    → Reads (parts_text v) (AreParts v n) NoPart old new (Some es)
+    → ReadsSpelling (parts_text v) (AreParts v n) NoPart old new (Some es)
 unfolding SomeParts
 parts_read v n old rest new es t some text gone =
-    subst (λ x. Reads (parts_text v) (AreParts v n) NoPart old x (Some es)) (sym (text.unchanged gone))
+    subst (λ x. ReadsSpelling (parts_text v) (AreParts v n) NoPart old x (Some es)) (sym (text.unchanged gone))
     (all_read old rest es some some.good
     (λ z zs after w g e. true≢false (sym (text.read (part_rest v z ++ (flat_map (part_text v) zs ++ after))
     (e ∙ append_assoc (codes "partition") (part_rest v z) (flat_map (part_text v) zs ++ after))).0 ∙ gone)))

@@ -7,7 +7,7 @@ use Rattle.std.proofs.lemmas.Bool.{lt-ltb, le-ltb}
 use Rattle.std.proofs.lemmas.List.{append_cancel_left}
 use Rattle.std.proofs.lemmas.Option.{same_Some}
 use Rattle.gob_bytes.specs.Words.{words}
-use Rattle.gob_bytes.specs.Escapes.{escaped}
+use Rattle.gob_bytes.specs.Escapes.{escape_of}
 use Rattle.std.specs.Fmt.{decimal}
 use Rattle.gob_ledger.specs.Marks as marks
 use Rattle.gob_ledger.specs.Marks.{Marks, Span, InOrder, Tiled, done_spans}
@@ -20,9 +20,9 @@ use Rattle.gob_ledger.proofs.StateLines.{Range, range_words, put_range, mixed, m
 use Rattle.gob_ledger.proofs.StateLines.{parts_text_is}
 use Rattle.gob_ledger.proofs.WordLines.{line_bytes, lines_text}
 use Rattle.gob_text.specs.Words.{GoesOnAtAll}
-use Rattle.gob_state.specs.Reads.{Reads, spaced_pair, spaced_triple, SmallPair, SmallTriple}
-use Rattle.gob_state.specs.Ranges.{done_numbers, IndexIs, IsDoneLine, open_numbers, IsOpenLine, range_text, IsRangeLine}
-use Rattle.gob_state.specs.Ranges.{NoRange, BeginsRange, GoesOn, grown, ranges_text, AreMarks}
+use Rattle.gob_state.specs.Reads.{ReadsSpelling, spaced_pair, spaced_triple, SmallPair, SmallTriple}
+use Rattle.gob_state.specs.Ranges.{done_numbers, IndexIs, IsDoneLine, open_range_text, IsOpenLine, range_text, IsRangeLine}
+use Rattle.gob_state.specs.Ranges.{NoRange, BeginsRange, RangeGoesOn, grown_marks, ranges_text, AreMarks}
 use Rattle.gob_state.specs.declared.ranges.RangeLine.{RangeLine}
 use Rattle.gob_state.specs.declared.ranges.RangeLine.TheVariants.{Done, Open}
 use Rattle.gob_state.proofs.Steps.{Renaming, no_more}
@@ -55,7 +55,7 @@ pub line_back : (r : Range) → range_of (line_of r) ≡ r
 line_back (inl d) = refl
 line_back (inr s) = refl
 
-abbrev pub open_renaming : Renaming spaced_pair SmallPair open_numbers IsOpenLine
+abbrev pub open_renaming : Renaming spaced_pair SmallPair open_range_text IsOpenLine
 open_renaming = record {
   to = λ p. record { lo = p.0; hi = p.1 };
   from = λ s. (s.lo, s.hi);
@@ -94,19 +94,19 @@ pub fits_line : (v : Version) (n next : ℕ) (r : Range) → FitsNext v n next r
 fits_line v n next (inl d) f = f.0
 fits_line v n next (inr s) f = f.0
 
-fits_goes_on : (v : Version) (n : ℕ) (m : Marks) (r : Range) → FitsNext v n m.next r → GoesOn n m (line_of r)
+fits_goes_on : (v : Version) (n : ℕ) (m : Marks) (r : Range) → FitsNext v n m.next r → RangeGoesOn n m (line_of r)
 fits_goes_on v n m (inl d) f = (f.1, f.2, f.3)
 fits_goes_on v n m (inr s) f = (f.1, f.2)
 
-pub both_fit : (v : Version) (n : ℕ) (m : Marks) (l : RangeLine) → IsRangeLine v l → GoesOn n m l → FitsNext v n m.next
+pub both_fit : (v : Version) (n : ℕ) (m : Marks) (l : RangeLine) → IsRangeLine v l → RangeGoesOn n m l → FitsNext v n m.next
     (range_of l)
 both_fit v n m (Done d) f g = (f, g.0, g.1, g.2)
 both_fit v n m (Open s) f g = (f, g.0, g.1)
 
 -- a line that was read, as a range that goes on
 next_read : (v : Version) (n : ℕ) (m : Marks) (rest new : List ℕ) (l : RangeLine)
-    → Reads (range_text v) (IsRangeLine v) GoesOnAtAll rest new (Some l) → GoesOn n m l
-    → Reads (range_bytes v) (FitsNext v n m.next) GoesOnAtAll rest new (Some (range_of l))
+    → ReadsSpelling (range_text v) (IsRangeLine v) GoesOnAtAll rest new (Some l) → RangeGoesOn n m l
+    → ReadsSpelling (range_bytes v) (FitsNext v n m.next) GoesOnAtAll rest new (Some (range_of l))
 next_read v n m rest new l r goes = record {
   spelled = (both_fit v n m l r.spelled.0 goes, r.spelled.1 ∙ ap (λ t. t ++ new) (range_spelled v l));
   read = λ q after f g e.
@@ -116,8 +116,8 @@ next_read v n m rest new l r goes = record {
 
 -- no line was read, or one that doesn't go on
 none_next : (v : Version) (n : ℕ) (m : Marks) (rest mid any : List ℕ)
-    → Reads (range_text v) (IsRangeLine v) GoesOnAtAll rest mid None
-    → Reads (range_bytes v) (FitsNext v n m.next) GoesOnAtAll rest any None
+    → ReadsSpelling (range_text v) (IsRangeLine v) GoesOnAtAll rest mid None
+    → ReadsSpelling (range_bytes v) (FitsNext v n m.next) GoesOnAtAll rest any None
 none_next v n m rest mid any r = record {
   spelled = tt;
   read = λ q after f g e. absurd (no_more (line_of q)
@@ -125,13 +125,13 @@ none_next v n m rest mid any r = record {
 }
 
 next_refused : (v : Version) (n : ℕ) (m : Marks) (rest mid any : List ℕ) (l : RangeLine)
-    → Reads (range_text v) (IsRangeLine v) GoesOnAtAll rest mid (Some l) → (GoesOn n m l → ⊥)
-    → Reads (range_bytes v) (FitsNext v n m.next) GoesOnAtAll rest any None
+    → ReadsSpelling (range_text v) (IsRangeLine v) GoesOnAtAll rest mid (Some l) → (RangeGoesOn n m l → ⊥)
+    → ReadsSpelling (range_bytes v) (FitsNext v n m.next) GoesOnAtAll rest any None
 next_refused v n m rest mid any l r never = record {
   spelled = tt;
   read = λ q after f g e.
       let one = r.read (line_of q) after (fits_line v n m.next q f) tt (e ∙ ap (λ t. t ++ after) (spelled_back v q)) in
-      absurd (never (subst (GoesOn n m) (sym (same_Some l (line_of q) one.0)) (fits_goes_on v n m q f)));
+      absurd (never (subst (RangeGoesOn n m) (sym (same_Some l (line_of q) one.0)) (fits_goes_on v n m q f)));
 }
 
 -- ---- the lines of marks
@@ -143,7 +143,7 @@ map_lines v (r ∷ rs) = ap (λ t. range_bytes v r ++ t) (map_lines v rs)
 -- the lines of marks are those of their ranges
 pub ranges_spelled : (v : Version) (m : Marks) → ranges_text v m ≡ flat_map (range_bytes v) (mixed m.finished m.owed)
 ranges_spelled v m =
-    let front : List ℕ = words (codes "partition") (escaped [] ∷ decimal m.next ∷ []) in
+    let front : List ℕ = words (codes "partition") (escape_of [] ∷ decimal m.next ∷ []) in
     let rs : List Range = mixed m.finished m.owed in
     let whole : (front ++ lines_text (map (range_words v) rs ++ [])) ≡ (front ++ ranges_text v m) ++ [] =
     parts_text_is v (([], m) ∷ []) in
@@ -236,7 +236,7 @@ gathered_back from (d ∷ ds) os order =
 -- the last of the ranges goes to the end of its kind
 gathered_push : (rs : List Range) (l : RangeLine) (next : ℕ)
     → record (gathered (rs ++ range_of l ∷ [])) { next = (span_in (range_of l)).hi }
-    ≡ grown l (record (gathered rs) { next = next })
+    ≡ grown_marks l (record (gathered rs) { next = next })
 gathered_push [] (Done d) next = refl
 gathered_push [] (Open s) next = refl
 gathered_push (inl e ∷ rs) (Done d) next =
@@ -312,16 +312,16 @@ one_more_range v n old rest m some begins = record {
   goes = λ z zs after w g. tt;
 }
 
-grown_next : (l : RangeLine) (m : Marks) → (grown l m).next ≡ (span_in (range_of l)).hi
+grown_next : (l : RangeLine) (m : Marks) → (grown_marks l m).next ≡ (span_in (range_of l)).hi
 grown_next (Done d) m = refl
 grown_next (Open s) m = refl
 
-goes_at : (n : ℕ) (m : Marks) (l : RangeLine) → GoesOn n m l
+goes_at : (n : ℕ) (m : Marks) (l : RangeLine) → RangeGoesOn n m l
     → ((span_in (range_of l)).lo ≡ m.next) × ((span_in (range_of l)).lo < (span_in (range_of l)).hi)
 goes_at n m (Done d) g = (g.0, g.1)
 goes_at n m (Open s) g = (g.0, g.1)
 
-index_of : (v : Version) (n : ℕ) (m : Marks) (l : RangeLine) → IsRangeLine v l → GoesOn n m l
+index_of : (v : Version) (n : ℕ) (m : Marks) (l : RangeLine) → IsRangeLine v l → RangeGoesOn n m l
     → HasIndex v n (range_of l)
 index_of v n m (Done d) f g = (g.2, f.2)
 index_of v n m (Open s) f g = tt
@@ -332,8 +332,8 @@ small_hi v (Open s) f = f.1
 
 pub next_range : (v : Version) (n : ℕ) (old rest new : List ℕ) (m after : Marks) (l : RangeLine)
     → SomeRanges v n old rest m
-    → BeginsRange rest → Reads (range_text v) (IsRangeLine v) GoesOnAtAll rest new (Some l) → GoesOn n m l
-    → after ≡ grown l m → SomeRanges v n old new after
+    → BeginsRange rest → ReadsSpelling (range_text v) (IsRangeLine v) GoesOnAtAll rest new (Some l) → RangeGoesOn n m l
+    → after ≡ grown_marks l m → SomeRanges v n old new after
 next_range v n old rest new m after l some begins r goes is =
     subst (SomeRanges v n old new) (sym is) (record {
       ranges = some.ranges ++ range_of l ∷ [];
@@ -341,7 +341,7 @@ next_range v n old rest new m after l some begins r goes is =
           (next_read v n m rest new l r goes) tt;
       line = subst (InLine 0 (some.ranges ++ range_of l ∷ [])) (sym (grown_next l m))
           (line_push 0 some.ranges m.next (range_of l) some.line at.0 at.1);
-      marks = ap (grown l) some.marks ∙ sym (gathered_push some.ranges l m.next)
+      marks = ap (grown_marks l) some.marks ∙ sym (gathered_push some.ranges l m.next)
           ∙ ap (λ k. record (gathered (some.ranges ++ range_of l ∷ [])) { next = k }) (sym (grown_next l m));
       indexed = pushed some.ranges (range_of l) some.indexed (index_of v n m l r.spelled.0 goes);
       small = subst Small (sym (grown_next l m)) (small_hi v l r.spelled.0);
@@ -357,8 +357,8 @@ next_range v n old rest new m after l some begins r goes is =
 
 -- lines read as marks: none
 no_marks_read : (v : Version) (n : ℕ) (old new : List ℕ)
-    → Reads (λ rs. flat_map (range_bytes v) rs) (Whole v n) NoRange old new None
-    → Reads (ranges_text v) (AreMarks v n) NoRange old new None
+    → ReadsSpelling (λ rs. flat_map (range_bytes v) rs) (Whole v n) NoRange old new None
+    → ReadsSpelling (ranges_text v) (AreMarks v n) NoRange old new None
 no_marks_read v n old new r = record {
   spelled = tt;
   read = λ m after f g e. absurd (no_more (mixed m.finished m.owed)
@@ -366,16 +366,16 @@ no_marks_read v n old new r = record {
 }
 
 pub range_malformed : (v : Version) (n : ℕ) (old rest mid new : List ℕ) (m : Marks) → SomeRanges v n old rest m
-    → BeginsRange rest → Reads (range_text v) (IsRangeLine v) GoesOnAtAll rest mid None
-    → Reads (ranges_text v) (AreMarks v n) NoRange old new None
+    → BeginsRange rest → ReadsSpelling (range_text v) (IsRangeLine v) GoesOnAtAll rest mid None
+    → ReadsSpelling (ranges_text v) (AreMarks v n) NoRange old new None
 range_malformed v n old rest mid new m some begins r = no_marks_read v n old new
     (one_missing old rest new new some.ranges None None some.along (one_more_range v n old rest m some begins)
     (none_next v n m rest mid new r) refl refl)
 
 pub range_refused : (v : Version) (n : ℕ) (old rest mid new : List ℕ) (m : Marks) (l : RangeLine)
     → SomeRanges v n old rest m
-    → BeginsRange rest → Reads (range_text v) (IsRangeLine v) GoesOnAtAll rest mid (Some l) → (GoesOn n m l → ⊥)
-    → Reads (ranges_text v) (AreMarks v n) NoRange old new None
+    → BeginsRange rest → ReadsSpelling (range_text v) (IsRangeLine v) GoesOnAtAll rest mid (Some l) → (RangeGoesOn n m l → ⊥)
+    → ReadsSpelling (ranges_text v) (AreMarks v n) NoRange old new None
 range_refused v n old rest mid new m l some begins r never = no_marks_read v n old new
     (one_missing old rest new new some.ranges None None some.along (one_more_range v n old rest m some begins)
     (next_refused v n m rest mid new l r never) refl refl)
@@ -393,13 +393,13 @@ pub begins_line : (v : Version) (z : Range) (after : List ℕ) (text : List ℕ)
     → NoRange text → ⊥
 begins_line version_1 (inl d) after text e none = none.no_done (done_numbers version_1 d ++ after) e
 begins_line version_2 (inl d) after text e none = none.no_done (done_numbers version_2 d ++ after) e
-begins_line v (inr s) after text e none = none.no_open (open_numbers s ++ after) e
+begins_line v (inr s) after text e none = none.no_open (open_range_text s ++ after) e
 
 -- where no further range stands, they are the marks
 pub ranges_read : (v : Version) (n : ℕ) (old rest new : List ℕ) (m : Marks) → SomeRanges v n old rest m → NoRange rest
-    → new ≡ rest → Reads (ranges_text v) (AreMarks v n) NoRange old new (Some m)
+    → new ≡ rest → ReadsSpelling (ranges_text v) (AreMarks v n) NoRange old new (Some m)
 ranges_read v n old rest new m some none is =
-    subst (λ x. Reads (ranges_text v) (AreMarks v n) NoRange old x (Some m)) (sym is) (record {
+    subst (λ x. ReadsSpelling (ranges_text v) (AreMarks v n) NoRange old x (Some m)) (sym is) (record {
       spelled = (
         are,
         all.spelled.1 ∙ ap (λ t. t ++ rest) (ap (flat_map (range_bytes v)) (sym mixes)
@@ -422,7 +422,7 @@ ranges_read v n old rest new m some none is =
     mixes : mixed m.finished m.owed ≡ some.ranges
     mixes = (λ i. mixed (some.marks i).finished (some.marks i).owed) ∙ mixed_back 0 some.ranges m.next some.line
 
-    all : Reads (λ rs. flat_map (range_bytes v) rs) (Whole v n) NoRange old rest (Some some.ranges)
+    all : ReadsSpelling (λ rs. flat_map (range_bytes v) rs) (Whole v n) NoRange old rest (Some some.ranges)
     all = all_read old rest some.ranges some.along (m, are, sym mixes)
         (λ z zs after w g e. begins_line v z (flat_map (range_bytes v) zs ++ after) rest e none)
 

@@ -16,15 +16,15 @@ use Rattle.std.proofs.lemmas.List.Elements.{All-from_recursion, recursion_from_A
 use Rattle.std.proofs.lemmas.Str.{IsUtf8-from_ascii}
 use Rattle.std.proofs.lemmas.Str.Ascii.{IsAscii-from_all}
 use Rattle.percent_encoding.specs.Percent.{percent_encode_byte}
-use Rattle.gob_bytes.specs.Escapes.{escaped, is_letter, is_digit, is_plain, AreBytes}
-use Rattle.gob_bytes.specs.Words.{numbered}
+use Rattle.gob_bytes.specs.Escapes.{escape_of, is_letter, is_digit, is_plain, AreBytes}
+use Rattle.gob_bytes.specs.Words.{numbered_line}
 use Rattle.gob_jobs.specs.Pipelines.{Setting, is_key, IsSetting, setting_line}
 use Rattle.gob_ledger.specs.Spelling.{IsKeptPipeline, line_count, pipeline_part}
 use Rattle.gob_ledger.proofs.ReadingWords.{setting_is_word}
 use Rattle.gob_ledger.proofs.StateLines.{settings_counted}
 use Rattle.gob_ledger.proofs.WordLines.{IsWord}
 use Rattle.gob_text.specs.Words.{GoesOnAtAll, IsLine}
-use Rattle.gob_state.specs.Reads.{Reads}
+use Rattle.gob_state.specs.Reads.{ReadsSpelling}
 use Rattle.gob_state.specs.Settings.{is_key_byte, IsSettingLine, whole_line, AreSettingLines, IsSettingsText}
 use Rattle.gob_state.specs.Settings.{ArePipelines}
 use Rattle.gob_state.proofs.Steps.{Pairing}
@@ -41,7 +41,7 @@ word_is_line (b ∷ w) word =
     (not_from_false (nat_eq b 10) (ne_eqb b 10 (λ e. omega arith))) (word_is_line w p.1)
 
 pub setting_is_line : (line : List ℕ) → IsSettingLine line → IsLine line
-setting_is_line line (s, is, spelled) = subst IsLine (sym spelled) (word_is_line (s.0 ++ 61 ∷ escaped s.1)
+setting_is_line line (s, is, spelled) = subst IsLine (sym spelled) (word_is_line (s.0 ++ 61 ∷ escape_of s.1)
     (setting_is_word s is))
 
 -- bytes that are ASCII
@@ -84,10 +84,10 @@ encoded_low : (b : ℕ) → Low (percent_encode_byte b)
 unfolding percent_encode_byte
 encoded_low b = (omega arith, (glyph_low (b / 16 % 16) (omega arith), (glyph_low (b % 16) (omega arith), tt)))
 
-escaped_low : (bs : List ℕ) → Low (escaped bs)
-unfolding escaped
+escaped_low : (bs : List ℕ) → Low (escape_of bs)
+unfolding escape_of
 escaped_low [] = tt
-escaped_low (b ∷ bs) = low_append (cond (is_plain b) (b ∷ []) (percent_encode_byte b)) (escaped bs)
+escaped_low (b ∷ bs) = low_append (cond (is_plain b) (b ∷ []) (percent_encode_byte b)) (escape_of bs)
     (cond_both (is_plain b) (b ∷ []) (percent_encode_byte b) Low (λ p. (plain_low b p, tt)) (λ _. encoded_low b))
     (escaped_low bs)
 
@@ -119,7 +119,7 @@ key_low (b ∷ bs) e = let p = and_parts (is_key_byte b) (list_all is_key_byte b
 pub setting_is_text : (line : List ℕ) → IsSettingLine line → IsUtf8 line
 setting_is_text line (s, is, spelled) =
     IsUtf8-from_ascii line (IsAscii-from_all line (All-from_recursion (λ b. b < 128) line (subst Low (sym spelled)
-    (low_append s.0 (61 ∷ escaped s.1) (key_low s.0 (key_bytes s.0 is.keyed)) (omega arith, escaped_low s.1)))))
+    (low_append s.0 (61 ∷ escape_of s.1) (key_low s.0 (key_bytes s.0 is.keyed)) (omega arith, escaped_low s.1)))))
 
 -- ---- how it is told
 
@@ -150,14 +150,14 @@ has_equals us vs line e free =
 
 -- a line without '=' sets no key
 pub no_equals : (line : List ℕ) → ((i : ℕ) → i < length line → get_or line i 0 ≢ 61) → IsSettingLine line → ⊥
-no_equals line free (s, is, spelled) = has_equals s.0 (escaped s.1) line spelled free
+no_equals line free (s, is, spelled) = has_equals s.0 (escape_of s.1) line spelled free
 
 -- what a setting's line has before its first '=' and behind
 pub setting_parts : (line key value : List ℕ) → line ≡ key ++ 61 ∷ value
     → ((i : ℕ) → i < length key → get_or key i 0 ≢ 61) → IsSettingLine line
-    → (is_key key ≡ true) × (bytes : List ℕ) × AreBytes bytes × (escaped bytes ≡ value)
+    → (is_key key ≡ true) × (bytes : List ℕ) × AreBytes bytes × (escape_of bytes ≡ value)
 setting_parts line key value parts free (s, is, spelled) =
-    let r = parted_once key s.0 value (escaped s.1) free (key_bytes s.0 is.keyed) (sym parts ∙ spelled) in
+    let r = parted_once key s.0 value (escape_of s.1) free (key_bytes s.0 is.keyed) (sym parts ∙ spelled) in
     (ap is_key r.0 ∙ is.keyed, s.1, is.bytes, sym r.1)
 
 -- ---- texts of settings
@@ -197,7 +197,7 @@ one_more_line n i rest xs count below = record {
 }
 
 pub next_setting : (n i : ℕ) (old rest new text line whole : List ℕ) → SomeLines n old rest text i → i < n
-    → Reads whole_line IsSettingLine GoesOnAtAll rest new (Some line) → whole ≡ (text ++ line) ++ 10 ∷ []
+    → ReadsSpelling whole_line IsSettingLine GoesOnAtAll rest new (Some line) → whole ≡ (text ++ line) ++ 10 ∷ []
     → SomeLines n old new whole (i + 1)
 next_setting n i old rest new text line whole some below r is = record {
   lines = some.lines ++ line ∷ [];
@@ -209,8 +209,8 @@ next_setting n i old rest new text line whole some below r is = record {
 
 -- lines read as a text
 as_text : (n : ℕ) (old new : List ℕ) (o : Option (List (List ℕ)))
-    → Reads (λ ls. flat_map whole_line ls) (AreSettingLines n) GoesOnAtAll old new o
-    → Reads (λ p. p) (IsSettingsText n) GoesOnAtAll old new (option_map (flat_map whole_line) o)
+    → ReadsSpelling (λ ls. flat_map whole_line ls) (AreSettingLines n) GoesOnAtAll old new o
+    → ReadsSpelling (λ p. p) (IsSettingsText n) GoesOnAtAll old new (option_map (flat_map whole_line) o)
 as_text n old new o r = record {
   spelled = cases o r.spelled;
   read = λ p after f g e.
@@ -226,34 +226,34 @@ as_text n old new o r = record {
 
 pub setting_missing : (n i : ℕ) (old rest mid new text : List ℕ) (o : Option (List ℕ)) → SomeLines n old rest text i
     → i < n
-    → Reads whole_line IsSettingLine GoesOnAtAll rest mid o → o ≡ None
-    → Reads (λ p. p) (IsSettingsText n) GoesOnAtAll old new None
+    → ReadsSpelling whole_line IsSettingLine GoesOnAtAll rest mid o → o ≡ None
+    → ReadsSpelling (λ p. p) (IsSettingsText n) GoesOnAtAll old new None
 setting_missing n i old rest mid new text o some below r none = as_text n old new None
     (one_missing old rest mid new some.lines o None some.along
     (one_more_line n i rest some.lines some.count below) r none
     refl)
 
 pub settings_read : (n : ℕ) (old rest text : List ℕ) → SomeLines n old rest text n
-    → Reads (λ p. p) (IsSettingsText n) GoesOnAtAll old rest (Some text)
+    → ReadsSpelling (λ p. p) (IsSettingsText n) GoesOnAtAll old rest (Some text)
 settings_read n old rest text some =
-    subst (λ t. Reads (λ p. p) (IsSettingsText n) GoesOnAtAll old rest (Some t)) (sym some.whole)
+    subst (λ t. ReadsSpelling (λ p. p) (IsSettingsText n) GoesOnAtAll old rest (Some t)) (sym some.whole)
     (as_text n old rest (Some some.lines) (all_read old rest some.lines some.along (some.along.good, some.count)
     (λ z zs after w g e. let long = length-append some.lines (z ∷ zs) in
     let all : length (some.lines ++ z ∷ zs) ≡ n = w.1 in let here = some.count in omega arith)))
 
 -- ---- pipelines
 
-lines_of_settings : (ss : List Setting) → flat_map whole_line (map (λ s. s.0 ++ 61 ∷ escaped s.1) ss)
+lines_of_settings : (ss : List Setting) → flat_map whole_line (map (λ s. s.0 ++ 61 ∷ escape_of s.1) ss)
     ≡ flat_map setting_line ss
 lines_of_settings [] = refl
 lines_of_settings (s ∷ ss) = ap (λ t. setting_line s ++ t) (lines_of_settings ss)
 
 settings_are_lines : (ss : List Setting) → AllByRecursion (λ s. IsSetting s.0 s.1) ss
-    → AllByRecursion IsSettingLine (map (λ s. s.0 ++ 61 ∷ escaped s.1) ss)
+    → AllByRecursion IsSettingLine (map (λ s. s.0 ++ 61 ∷ escape_of s.1) ss)
 settings_are_lines [] all = tt
 settings_are_lines (s ∷ ss) all = ((s, all.0, refl), settings_are_lines ss all.1)
 
-length_lines : (ss : List Setting) → length (map (λ (s : Setting). s.0 ++ 61 ∷ escaped s.1) ss) ≡ length ss
+length_lines : (ss : List Setting) → length (map (λ (s : Setting). s.0 ++ 61 ∷ escape_of s.1) ss) ≡ length ss
 length_lines [] = refl
 length_lines (s ∷ ss) = ap suc (length_lines ss)
 
@@ -283,7 +283,7 @@ lines_from_kept p (ss, all, is, small) =
     let count : line_count p ≡ length ss = ap line_count is ∙ settings_counted ss all in (
       subst (λ k. k < 2 ^ 64) (sym count) small,
       (
-        map (λ s. s.0 ++ 61 ∷ escaped s.1) ss,
+        map (λ s. s.0 ++ 61 ∷ escape_of s.1) ss,
         (
           settings_are_lines ss (recursion_from_All (λ (s : Setting). IsSetting s.0 s.1) ss all),
           length_lines ss
@@ -294,7 +294,7 @@ lines_from_kept p (ss, all, is, small) =
     )
 
 -- a pipeline is its number of lines and then the lines
-abbrev pub pipeline_pairing : Pairing (λ n. numbered (codes "pipeline") (n ∷ [])) (λ n. n < 2 ^ 64) GoesOnAtAll
+abbrev pub pipeline_pairing : Pairing (λ n. numbered_line (codes "pipeline") (n ∷ [])) (λ n. n < 2 ^ 64) GoesOnAtAll
     (λ n p. p)
     (λ n p. IsSettingsText n p) pipeline_part IsKeptPipeline GoesOnAtAll
 pipeline_pairing = record {
@@ -302,7 +302,7 @@ pipeline_pairing = record {
   first = line_count;
   second = λ p. p;
   whole = λ p. refl;
-  spells = λ n p small is. ap (λ k. numbered (codes "pipeline") (k ∷ []) ++ p) (kept_from_lines n p small is).1;
+  spells = λ n p small is. ap (λ k. numbered_line (codes "pipeline") (k ∷ []) ++ p) (kept_from_lines n p small is).1;
   fits = λ n p small is. (kept_from_lines n p small is).0;
   parts = lines_from_kept;
   goes = λ n p after small is g. tt;
@@ -322,7 +322,7 @@ pub record SomePipelines (n : ℕ) (old rest : List ℕ) (ps : List (List ℕ)) 
   pub count : length ps ≡ i
 
 pub next_pipeline : (n i : ℕ) (old rest new : List ℕ) (ps : List (List ℕ)) (p : List ℕ) → SomePipelines n old rest ps i
-    → i < n → Reads pipeline_part IsKeptPipeline GoesOnAtAll rest new (Some p)
+    → i < n → ReadsSpelling pipeline_part IsKeptPipeline GoesOnAtAll rest new (Some p)
     → SomePipelines n old new (ps ++ p ∷ []) (i + 1)
 next_pipeline n i old rest new ps p some below r = record {
   along = one_more old rest new ps p some.along (one_more_pipeline n i rest ps some.count below) r
@@ -331,13 +331,13 @@ next_pipeline n i old rest new ps p some below r = record {
 }
 
 pub pipeline_missing : (n i : ℕ) (old rest mid new : List ℕ) (ps : List (List ℕ)) (o : Option (List ℕ))
-    → SomePipelines n old rest ps i → i < n → Reads pipeline_part IsKeptPipeline GoesOnAtAll rest mid o → o ≡ None
-    → Reads (λ qs. flat_map pipeline_part qs) (ArePipelines n) GoesOnAtAll old new None
+    → SomePipelines n old rest ps i → i < n → ReadsSpelling pipeline_part IsKeptPipeline GoesOnAtAll rest mid o → o ≡ None
+    → ReadsSpelling (λ qs. flat_map pipeline_part qs) (ArePipelines n) GoesOnAtAll old new None
 pipeline_missing n i old rest mid new ps o some below r none =
     one_missing old rest mid new ps o None some.along (one_more_pipeline n i rest ps some.count below) r none refl
 
 pub pipelines_read : (n : ℕ) (old rest : List ℕ) (ps : List (List ℕ)) → SomePipelines n old rest ps n
-    → Reads (λ qs. flat_map pipeline_part qs) (ArePipelines n) GoesOnAtAll old rest (Some ps)
+    → ReadsSpelling (λ qs. flat_map pipeline_part qs) (ArePipelines n) GoesOnAtAll old rest (Some ps)
 pipelines_read n old rest ps some = all_read old rest ps some.along (some.along.good, some.count)
     (λ z zs after w g e. let long = length-append ps (z ∷ zs) in
     let all : length (ps ++ z ∷ zs) ≡ n = w.1 in let here = some.count in omega arith)
@@ -359,15 +359,15 @@ at_drop xs i x below is = at_drop_or xs i x below ∙ (λ j. sym is j ∷ drop (
 
 -- whether a text is an escaped value
 pub told : {V : Type 0} (items : V → List ℕ) (text : List ℕ) (o : Option V)
-    → MatchOption o ((bytes : List ℕ) → AreBytes bytes → escaped bytes ≢ text) (λ v. AreBytes (items v)
-    × (escaped (items v) ≡ text))
-    → (is_some o ≡ true → (bytes : List ℕ) × AreBytes bytes × (escaped bytes ≡ text))
-    × ((bytes : List ℕ) × AreBytes bytes × (escaped bytes ≡ text) → is_some o ≡ true)
+    → MatchOption o ((bytes : List ℕ) → AreBytes bytes → escape_of bytes ≢ text) (λ v. AreBytes (items v)
+    × (escape_of (items v) ≡ text))
+    → (is_some o ≡ true → (bytes : List ℕ) × AreBytes bytes × (escape_of bytes ≡ text))
+    × ((bytes : List ℕ) × AreBytes bytes × (escape_of bytes ≡ text) → is_some o ≡ true)
 told items text None h = (λ e. absurd (true≢false (sym e)), λ v. absurd (h v.0 v.1 v.2))
 told items text (Some v) h = (λ e. (items v, h.0, h.1), λ w. refl)
 
 -- a key and an escaped value are a setting's line
 pub setting_made : (line key value : List ℕ) → line ≡ key ++ 61 ∷ value → is_key key ≡ true
-    → (bytes : List ℕ) × AreBytes bytes × (escaped bytes ≡ value) → IsSettingLine line
+    → (bytes : List ℕ) × AreBytes bytes × (escape_of bytes ≡ value) → IsSettingLine line
 setting_made line key value parts keyed (bytes, are, is) =
     ((key, bytes), record { keyed = keyed; bytes = are }, parts ∙ ap (λ v. key ++ 61 ∷ v) (sym is))

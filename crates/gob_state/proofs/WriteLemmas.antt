@@ -5,23 +5,23 @@ use Rattle.std.proofs.Common.{arith, codes, Some}
 use Rattle.std.specs.List.{AllByRecursion, flat_map, slice_get}
 use Rattle.std.specs.Fmt.{decimal}
 use Rattle.std.proofs.lemmas.Bool.{lt-ltb, le-ltb}
-use Rattle.gob_bytes.specs.Words.{numbered}
+use Rattle.gob_bytes.specs.Words.{numbered_line}
 use Rattle.gob_ledger.specs.Marks.{Done, Span, InOrder}
 use Rattle.gob_ledger.specs.State.{State}
 use Rattle.gob_ledger.specs.Spelling.{Placed, done_line, open_line, parts_text, pipelines_text, put_line}
 use Rattle.gob_ledger.specs.Spelling.{put_lines, state_spelling, totals_text, version_2}
 use Rattle.gob_ledger.proofs.Ranges.{order_from}
-use Rattle.gob_state.specs.Reads.{spaced}
+use Rattle.gob_state.specs.Reads.{spaced_number}
 use Rattle.gob_state.specs.Written.{BeginsBehind, OpensPushed, lines_of_ranges}
 use Rattle.gob_state.proofs.SettingLemmas.{at_drop, at_drop_or}
 use Rattle.std.proofs.lemmas.Option.{none-some, same_Some}
 
 -- ---- lines of numbers
 
-pub numbered_is : (word ns : List ℕ) → numbered word ns ≡ word ++ (flat_map spaced ns ++ 10 ∷ [])
+pub numbered_is : (word ns : List ℕ) → numbered_line word ns ≡ word ++ (flat_map spaced_number ns ++ 10 ∷ [])
 numbered_is word [] = refl
 numbered_is word (n ∷ ns) = ap (λ t. word ++ 32 ∷ t) (numbered_is (decimal n) ns)
-    ∙ ap (λ t. word ++ 32 ∷ t) (sym (append_assoc (decimal n) (flat_map spaced ns) (10 ∷ [])))
+    ∙ ap (λ t. word ++ 32 ∷ t) (sym (append_assoc (decimal n) (flat_map spaced_number ns) (10 ∷ [])))
 
 -- ---- ranges
 
@@ -65,7 +65,7 @@ put_in_front l (m ∷ ms) all = ap (λ b. cond b (l ∷ m ∷ ms) (m ∷ put_lin
 -- a done range that begins before the first open one comes first
 pub done_comes_first : (from : ℕ) (d : Done) (ds : List Done) (os : List Span)
     → InOrder from (map (λ (d : Done). d.span) (d ∷ ds)) → Behind d.span.lo (map open_line os)
-    → lines_of_ranges (d ∷ ds) os ≡ numbered (codes "done") (d.span.lo ∷ d.span.hi ∷ d.pipeline ∷ [])
+    → lines_of_ranges (d ∷ ds) os ≡ numbered_line (codes "done") (d.span.lo ∷ d.span.hi ∷ d.pipeline ∷ [])
     ++ lines_of_ranges ds os
 done_comes_first from d ds os order all = ap (flat_map (λ (l : Placed). l.1))
     (put_in_front (done_line version_2 d) (put_lines (map (done_line version_2) ds) (map open_line os))
@@ -97,29 +97,29 @@ put_lines_open o (d ∷ ds) os all =
 
 -- an open range that doesn't begin behind the first done one comes first
 pub open_comes_first : (o : Span) (ds : List Done) (os : List Span) → NotBefore o.lo ds
-    → lines_of_ranges ds (o ∷ os) ≡ numbered (codes "open") (o.lo ∷ o.hi ∷ []) ++ lines_of_ranges ds os
+    → lines_of_ranges ds (o ∷ os) ≡ numbered_line (codes "open") (o.lo ∷ o.hi ∷ []) ++ lines_of_ranges ds os
 open_comes_first o ds os all = ap (flat_map (λ (l : Placed). l.1)) (put_lines_open o ds os all)
 
 -- ---- loops
 
 -- one number more
 pub number_pushed : (old word : List ℕ) (ns : List ℕ) (i : ℕ) (a b c : List ℕ) → i < length ns
-    → a ++ (flat_map spaced (drop i ns) ++ 10 ∷ []) ≡ old ++ numbered word ns → b ≡ a ++ 32 ∷ []
-    → c ≡ b ++ decimal (get_or ns i 0) → c ++ (flat_map spaced (drop (i + 1) ns) ++ 10 ∷ []) ≡ old ++ numbered word ns
+    → a ++ (flat_map spaced_number (drop i ns) ++ 10 ∷ []) ≡ old ++ numbered_line word ns → b ≡ a ++ 32 ∷ []
+    → c ≡ b ++ decimal (get_or ns i 0) → c ++ (flat_map spaced_number (drop (i + 1) ns) ++ 10 ∷ []) ≡ old ++ numbered_line word ns
 number_pushed old word ns i a b c below inv pb pc =
     let n = get_or ns i 0 in
     let rest = at_drop_or ns i 0 below in
-    ap (λ t. t ++ (flat_map spaced (drop (i + 1) ns) ++ 10 ∷ [])) (pc ∙ ap (λ t. t ++ decimal n) pb)
-    ∙ regrouped a (decimal n) (flat_map spaced (drop (i + 1) ns)) (10 ∷ [])
-    ∙ ap (λ xs. a ++ (flat_map spaced xs ++ 10 ∷ [])) (sym rest) ∙ inv
+    ap (λ t. t ++ (flat_map spaced_number (drop (i + 1) ns) ++ 10 ∷ [])) (pc ∙ ap (λ t. t ++ decimal n) pb)
+    ∙ regrouped a (decimal n) (flat_map spaced_number (drop (i + 1) ns)) (10 ∷ [])
+    ∙ ap (λ xs. a ++ (flat_map spaced_number xs ++ 10 ∷ [])) (sym rest) ∙ inv
   where
     regrouped : (a d r t : List ℕ) → ((a ++ 32 ∷ []) ++ d) ++ (r ++ t) ≡ a ++ (((32 ∷ d) ++ r) ++ t)
     regrouped a d r t = simp append_assoc
 
 pub numbers_begin : (old word ns : List ℕ) (a : List ℕ) → a ≡ old ++ word
-    → a ++ (flat_map spaced (drop 0 ns) ++ 10 ∷ []) ≡ old ++ numbered word ns
+    → a ++ (flat_map spaced_number (drop 0 ns) ++ 10 ∷ []) ≡ old ++ numbered_line word ns
 numbers_begin old word ns a is =
-    ap (λ t. t ++ (flat_map spaced ns ++ 10 ∷ [])) is ∙ append_assoc old word (flat_map spaced ns ++ 10 ∷ [])
+    ap (λ t. t ++ (flat_map spaced_number ns ++ 10 ∷ [])) is ∙ append_assoc old word (flat_map spaced_number ns ++ 10 ∷ [])
     ∙ ap (λ t. old ++ t) (sym (numbered_is word ns))
 
 pub dropped_all : {X : Type 0} (xs : List X) (i : ℕ) → length xs ≤ i → drop i xs ≡ []
@@ -129,10 +129,10 @@ dropped_all (q ∷ qs) zero past = absurd (omega arith)
 dropped_all (q ∷ qs) (suc i) past = dropped_all qs i (omega arith)
 
 pub numbers_end : (old word ns : List ℕ) (i : ℕ) (a b : List ℕ) → length ns ≤ i
-    → a ++ (flat_map spaced (drop i ns) ++ 10 ∷ []) ≡ old ++ numbered word ns → b ≡ a ++ 10 ∷ []
-    → b ≡ old ++ numbered word ns
+    → a ++ (flat_map spaced_number (drop i ns) ++ 10 ∷ []) ≡ old ++ numbered_line word ns → b ≡ a ++ 10 ∷ []
+    → b ≡ old ++ numbered_line word ns
 numbers_end old word ns i a b past inv is =
-    is ∙ ap (λ xs. a ++ (flat_map spaced xs ++ 10 ∷ [])) (sym (dropped_all ns i past)) ∙ inv
+    is ∙ ap (λ xs. a ++ (flat_map spaced_number xs ++ 10 ∷ [])) (sym (dropped_all ns i past)) ∙ inv
 
 -- ---- open ranges
 
@@ -143,12 +143,12 @@ order_drop (s ∷ ss) from (suc k) order = order_drop ss s.hi k order.2
 
 pub open_pushed : (at : ℕ) (old a b : List ℕ) (before owed : List Span) (k : ℕ) (o : Span) → k < length owed
     → o ≡ get_or owed k o → o.lo ≤ at → OpensPushed at old before a (drop k owed)
-    → b ≡ a ++ numbered (codes "open") (o.lo ∷ o.hi ∷ []) → OpensPushed at old before b (drop (k + 1) owed)
+    → b ≡ a ++ numbered_line (codes "open") (o.lo ∷ o.hi ∷ []) → OpensPushed at old before b (drop (k + 1) owed)
 open_pushed at old a b before owed k o below is low inv pushed ds all =
     let rest = at_drop owed k o below is in
     inv ds all ∙ ap (λ os. a ++ lines_of_ranges ds os) rest
     ∙ ap (λ t. a ++ t) (open_comes_first o ds (drop (k + 1) owed) (not_before_less o.lo at ds low all))
-    ∙ sym (append_assoc a (numbered (codes "open") (o.lo ∷ o.hi ∷ [])) (lines_of_ranges ds (drop (k + 1) owed)))
+    ∙ sym (append_assoc a (numbered_line (codes "open") (o.lo ∷ o.hi ∷ [])) (lines_of_ranges ds (drop (k + 1) owed)))
     ∙ ap (λ t. t ++ lines_of_ranges ds (drop (k + 1) owed)) (sym pushed)
   where
     not_before_less : (lo at : ℕ) (ds : List Done) → lo ≤ at → NotBefore at ds → NotBefore lo ds
@@ -175,7 +175,7 @@ pub done_pushed : (old a b c : List ℕ) (done : List Done) (owed : List Span) (
     → d ≡ get_or done i d → InOrder 0 (map (λ (d : Done). d.span) done) → InOrder 0 owed
     → a ++ lines_of_ranges (drop i done) (drop k owed) ≡ old ++ lines_of_ranges done owed
     → OpensPushed d.span.lo a (drop k owed) b (drop l owed) → BeginsBehind d.span.lo (drop l owed)
-    → c ≡ b ++ numbered (codes "done") (d.span.lo ∷ d.span.hi ∷ d.pipeline ∷ [])
+    → c ≡ b ++ numbered_line (codes "done") (d.span.lo ∷ d.span.hi ∷ d.pipeline ∷ [])
     → c ++ lines_of_ranges (drop (i + 1) done) (drop l owed) ≡ old ++ lines_of_ranges done owed
 done_pushed old a b c done owed i k l d below is order opens inv pushed stop more =
     let rest = at_drop done i d below is in
@@ -183,7 +183,7 @@ done_pushed old a b c done owed i k l d below is order opens inv pushed stop mor
     let here : InOrder at.0 (map (λ (x : Done). x.span) (d ∷ drop (i + 1) done)) =
     subst (λ ds. InOrder at.0 (map (λ (x : Done). x.span) ds)) rest at.1 in
     ap (λ t. t ++ lines_of_ranges (drop (i + 1) done) (drop l owed)) more
-    ∙ append_assoc b (numbered (codes "done") (d.span.lo ∷ d.span.hi ∷ d.pipeline ∷ []))
+    ∙ append_assoc b (numbered_line (codes "done") (d.span.lo ∷ d.span.hi ∷ d.pipeline ∷ []))
     (lines_of_ranges (drop (i + 1) done) (drop l owed))
     ∙ ap (λ t. b ++ t) (sym (done_comes_first at.0 d (drop (i + 1) done) (drop l owed) here
     (behind_all d.span.lo (drop l owed) (order_drop owed 0 l opens) stop)))
@@ -207,14 +207,14 @@ text_more s old a b xs i x below is inv more =
 
 -- ---- the whole text
 
-pub state_written : (s : State) (a b c d e f g : List ℕ) → a ≡ [] → b ≡ a ++ numbered (codes "gobblin-state") (2 ∷ [])
-    → c ≡ b ++ numbered (codes "run") (s.run ∷ []) → d ≡ c ++ pipelines_text version_2 s.pipelines
+pub state_written : (s : State) (a b c d e f g : List ℕ) → a ≡ [] → b ≡ a ++ numbered_line (codes "gobblin-state") (2 ∷ [])
+    → c ≡ b ++ numbered_line (codes "run") (s.run ∷ []) → d ≡ c ++ pipelines_text version_2 s.pipelines
     → e ≡ d ++ totals_text s.totals → f ≡ e ++ parts_text version_2 s.parts → g ≡ f ++ (codes "end" ++ 10 ∷ [])
     → g ≡ state_spelling version_2 s
 unfolding state_spelling
 state_written s a b c d e f g ra rb rc rd re rf rg =
-    let first : List ℕ = numbered (codes "gobblin-state") (2 ∷ []) in
-    let run : List ℕ = numbered (codes "run") (s.run ∷ []) in
+    let first : List ℕ = numbered_line (codes "gobblin-state") (2 ∷ []) in
+    let run : List ℕ = numbered_line (codes "run") (s.run ∷ []) in
     rg ∙ ap (λ x. x ++ (codes "end" ++ 10 ∷ [])) (rf ∙ ap (λ x. x ++ parts_text version_2 s.parts) (re
     ∙ ap (λ x. x ++ totals_text s.totals) (rd ∙ ap (λ x. x ++ pipelines_text version_2 s.pipelines) (rc
     ∙ ap (λ x. x ++ run) (rb ∙ ap (λ x. x ++ first) ra)))))

@@ -35,12 +35,12 @@ may_commit Full all v = all
 may_commit Successful all v = is_good v
 
 -- the units of a run that are committed
-abbrev pub committed : CommitPolicy → Bool → List Judged → List Judged
-committed policy all js = filter (λ j. may_commit policy all j.1) js
+abbrev pub committed_units : CommitPolicy → Bool → List Judged → List Judged
+committed_units policy all js = filter (λ j. may_commit policy all j.1) js
 
 -- the fresh units of each partition follow each other from its end
-abbrev pub AddsTo : Table Marks → List WorkUnit → Type 0
-AddsTo parts units = (part : List ℕ) → AreAdjacentFrom (next_of parts part) (fresh_in part units)
+abbrev pub FreshUnitsFollow : Table Marks → List WorkUnit → Type 0
+FreshUnitsFollow parts units = (part : List ℕ) → AreAdjacentFrom (next_of parts part) (fresh_in part units)
 
 -- the marks with a unit that is owed where it is fresh
 abbrev pub part_added : Table Marks → WorkUnit → Table Marks

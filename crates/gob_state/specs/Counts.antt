@@ -6,8 +6,8 @@ use Rattle.gob_plan.specs.declared.units.Counts.{Counts}
 use Rattle.gob_ledger.specs.Spelling.{SmallBranch, SmallCounts, branch_line}
 
 -- a line for each branch
-abbrev pub branch_lines : List BranchCounts → List ℕ
-branch_lines bs = flat_map branch_line (enumerate_from 0 bs)
+abbrev pub branch_count_lines : List BranchCounts → List ℕ
+branch_count_lines bs = flat_map branch_line (enumerate_from 0 bs)
 
 -- branches that a file can tell
 abbrev pub AreBranches : List BranchCounts → Type 0

@@ -3,7 +3,7 @@ use Rattle.std.specs.Prelude.{◌≡◌, ℕ, List, [], ◌∷◌, ◌++◌, len
 use Rattle.std.specs.List.{AllByRecursion, IsDistinct}
 use Rattle.std.specs.Str.{bytes_eq}
 use Rattle.gob_bytes.specs.Tables.{Table}
-use Rattle.gob_bytes.specs.Words.{numbered}
+use Rattle.gob_bytes.specs.Words.{numbered_line}
 use Rattle.gob_plan.specs.declared.units.Counts.{Counts}
 use Rattle.gob_ledger.specs.Marks.{Marks}
 use Rattle.gob_ledger.specs.Spelling.{Version, version_1, version_2, FitsVersion, IsKeptPipeline, Proper, ReadsAs}
@@ -15,7 +15,7 @@ use Rattle.gob_state.specs.Parts.{AreParts}
 -- how many pipelines there are, where the version tells it
 abbrev pub count_line : Version → ℕ → List ℕ
 count_line version_1 n = []
-count_line version_2 n = numbered (codes "pipelines") (n ∷ [])
+count_line version_2 n = numbered_line (codes "pipelines") (n ∷ [])
 
 abbrev pub CountFits : Version → ℕ → Type 0
 CountFits version_1 n = n ≡ 1
@@ -37,7 +37,7 @@ rest_text v z = pipelines_text v z.0 ++ counted_text v z.1
 
 -- all but a state's first and last line
 abbrev pub state_rest : Version → states.State → List ℕ
-state_rest v s = numbered (codes "run") (s.run ∷ []) ++ rest_text v (s.pipelines, (s.totals, s.parts))
+state_rest v s = numbered_line (codes "run") (s.run ∷ []) ++ rest_text v (s.pipelines, (s.totals, s.parts))
 
 -- a state that can be kept and that the version can tell
 abbrev pub IsToldBy : Version → states.State → Type 0

@@ -1,7 +1,7 @@
 -- The text of a partition, and of all partitions.
 use Rattle.std.specs.Prelude.{◌≢◌, ◌<◌, ℕ, List, ◌∷◌, ◌++◌, codes}
 use Rattle.std.specs.List.{AllByRecursion}
-use Rattle.gob_bytes.specs.Escapes.{escaped}
+use Rattle.gob_bytes.specs.Escapes.{escape_of}
 use Rattle.gob_bytes.specs.Tables.{Table, names_of, IsInByteOrder}
 use Rattle.gob_ledger.specs.Marks.{Marks}
 use Rattle.gob_ledger.specs.Spelling.{Version, Small}
@@ -11,7 +11,7 @@ use Rattle.gob_state.specs.Ranges.{AreMarks, NoRange, ranges_text}
 
 -- a partition's name and its end, behind the word
 abbrev pub head_text : List ℕ × ℕ → List ℕ
-head_text p = (32 ∷ escaped p.0) ++ spaced_last p.1
+head_text p = (32 ∷ escape_of p.0) ++ spaced_last p.1
 
 abbrev pub IsHead : List ℕ × ℕ → Type 0
 IsHead p = IsName p.0 × Small p.1

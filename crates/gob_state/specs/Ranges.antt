@@ -8,7 +8,7 @@ use Rattle.gob_ledger.specs.Next.{with_owed}
 use Rattle.gob_ledger.specs.Spelling.{Version, version_1, version_2, Small, range_lines}
 use Rattle.gob_marks.specs.Changed.{with_new_done}
 use Rattle.gob_text.specs.Words.{GoesOnAtAll}
-use Rattle.gob_state.specs.Reads.{Reads, spaced_pair, spaced_triple}
+use Rattle.gob_state.specs.Reads.{ReadsSpelling, spaced_pair, spaced_triple}
 use Rattle.gob_state.specs.declared.ranges.RangeLine.{RangeLine}
 use Rattle.gob_state.specs.declared.ranges.RangeLine.TheVariants.{Done, Open}
 
@@ -27,15 +27,15 @@ abbrev pub IsDoneLine : Version → marks.Done → Type 0
 IsDoneLine v d = Small d.span.lo × Small d.span.hi × IndexIs v d.pipeline
 
 -- an open range behind the word
-abbrev pub open_numbers : marks.Span → List ℕ
-open_numbers s = spaced_pair (s.lo, s.hi)
+abbrev pub open_range_text : marks.Span → List ℕ
+open_range_text s = spaced_pair (s.lo, s.hi)
 
 abbrev pub IsOpenLine : marks.Span → Type 0
 IsOpenLine s = Small s.lo × Small s.hi
 
 abbrev pub range_text : Version → RangeLine → List ℕ
 range_text v (Done d) = codes "done" ++ done_numbers v d
-range_text v (Open s) = codes "open" ++ open_numbers s
+range_text v (Open s) = codes "open" ++ open_range_text s
 
 -- a range that the version can tell
 abbrev pub IsRangeLine : Version → RangeLine → Type 0
@@ -53,20 +53,20 @@ BeginsRange text = ((after : List ℕ) × (text ≡ codes "done" ++ after))
 
 -- the line of a range, malformed or not, or another line
 abbrev pub TakesRange : Version → List ℕ → List ℕ → Option (Option RangeLine) → Type 0
-TakesRange v old new None = BeginsRange old × Reads (range_text v) (IsRangeLine v) GoesOnAtAll old new None
+TakesRange v old new None = BeginsRange old × ReadsSpelling (range_text v) (IsRangeLine v) GoesOnAtAll old new None
 TakesRange v old new (Some None) = NoRange old × (new ≡ old)
-TakesRange v old new (Some (Some r)) = BeginsRange old × Reads (range_text v) (IsRangeLine v) GoesOnAtAll old new
+TakesRange v old new (Some (Some r)) = BeginsRange old × ReadsSpelling (range_text v) (IsRangeLine v) GoesOnAtAll old new
     (Some r)
 
 -- the range begins where the others end, and its pipeline is one of so many
-abbrev pub GoesOn : ℕ → marks.Marks → RangeLine → Type 0
-GoesOn n m (Done d) = (d.span.lo ≡ m.next) × (d.span.lo < d.span.hi) × (d.pipeline < n)
-GoesOn n m (Open s) = (s.lo ≡ m.next) × (s.lo < s.hi)
+abbrev pub RangeGoesOn : ℕ → marks.Marks → RangeLine → Type 0
+RangeGoesOn n m (Done d) = (d.span.lo ≡ m.next) × (d.span.lo < d.span.hi) × (d.pipeline < n)
+RangeGoesOn n m (Open s) = (s.lo ≡ m.next) × (s.lo < s.hi)
 
 -- the marks with one range more
-abbrev pub grown : RangeLine → marks.Marks → marks.Marks
-grown (Done d) m = with_new_done d.pipeline d.span m
-grown (Open s) m = with_owed s m
+abbrev pub grown_marks : RangeLine → marks.Marks → marks.Marks
+grown_marks (Done d) m = with_new_done d.pipeline d.span m
+grown_marks (Open s) m = with_owed s m
 
 -- the lines of a partition's ranges
 abbrev pub ranges_text : Version → marks.Marks → List ℕ

@@ -1,7 +1,7 @@
 -- The texts of pipelines, line by line.
 use Rattle.std.specs.Prelude.{◌≡◌, ◌||◌, nat_eq, Bool, ℕ, List, [], ◌∷◌, ◌++◌, length}
 use Rattle.std.specs.List.{AllByRecursion, flat_map}
-use Rattle.gob_bytes.specs.Escapes.{escaped, is_letter, is_digit}
+use Rattle.gob_bytes.specs.Escapes.{escape_of, is_letter, is_digit}
 use Rattle.gob_jobs.specs.Pipelines.{Setting, IsSetting}
 use Rattle.gob_ledger.specs.Spelling.{IsKeptPipeline}
 
@@ -11,7 +11,7 @@ is_key_byte c = is_letter c || is_digit c || nat_eq c 46
 
 -- a line that sets a key
 abbrev pub IsSettingLine : List ℕ → Type 0
-IsSettingLine line = (s : Setting) × IsSetting s.0 s.1 × (line ≡ s.0 ++ 61 ∷ escaped s.1)
+IsSettingLine line = (s : Setting) × IsSetting s.0 s.1 × (line ≡ s.0 ++ 61 ∷ escape_of s.1)
 
 -- a line with its end
 abbrev pub whole_line : List ℕ → List ℕ

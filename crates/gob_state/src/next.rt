@@ -8,7 +8,7 @@ ghost use Rattle.gob_ledger.specs.State as states;
 ghost use Rattle.gob_ledger.specs.Units.{UnitsFit, same_unit};
 ghost use Rattle.gob_meaning.specs.Fold.{saturate_u64};
 ghost use Rattle.gob_meaning.specs.Sums.{both_branches, branch_sums, sum_of};
-ghost use Rattle.gob_state.specs.Committed.{AddsTo, AllOwed, AreKept, committed, judged_by, may_commit};
+ghost use Rattle.gob_state.specs.Committed.{FreshUnitsFollow, AllOwed, AreKept, committed_units, judged_by, may_commit};
 ghost use Rattle.gob_state.specs.Committed.{parts_added, parts_finished, pipelines_with, totals_sum, verdict_in};
 ghost use Rattle.gob_state.specs.Committed.{verdicts_in};
 
@@ -135,7 +135,7 @@ fn pipelines_with(pipelines: &List<Text>, pipeline: &str) -> Result<List<Text>, 
 
 // A fresh unit's range goes on where its partition ends, and is owed.
 fn add_units(marks: &mut MarkTable, units: &[Unit]) -> Result<(), NoMemory>
-    requires { AddsTo marks.old units.now }
+    requires { FreshUnitsFollow marks.old units.now }
     ensures { OnOk result (marks.new ≡ parts_added marks.old units.now) }
 {
     for unit in units {
@@ -158,7 +158,7 @@ fn finish_units(
     requires once { IsDistinct same_unit units.now }
     requires owed { AllOwed marks.old units.now }
     ensures { OnOk result
-        (marks.new ≡ parts_finished pipeline marks.old (committed policy all (judged_by units.now results.now))) }
+        (marks.new ≡ parts_finished pipeline marks.old (committed_units policy all (judged_by units.now results.now))) }
 {
     for i in 0..units.len() {
         if is_allowed(policy, all, &results[i]) {

@@ -4,7 +4,7 @@ ghost use Rattle.gob_ledger.specs.Spelling.{parts_text};
 ghost use Rattle.gob_text.specs.Words.{GoesOnAtAll};
 ghost use Rattle.gob_state.specs.Parts.{AreParts, IsHead, IsPart, NoPart, head_text, part_rest};
 ghost use Rattle.gob_state.specs.Ranges.{NoRange};
-ghost use Rattle.gob_state.specs.Reads.{Reads};
+ghost use Rattle.gob_state.specs.Reads.{ReadsSpelling};
 ghost use Rattle.gob_state.specs.Versions.{version_of};
 
 use crate::Version;
@@ -17,7 +17,7 @@ use std::alloc::Global;
 
 /// The name of a partition and its end, which stand behind its word.
 pub fn take_head(alloc: Global, text: &mut Words) -> Result<Option<(Text, u64)>, NoMemory>
-    ensures { IfOk result (λ taken. Reads head_text IsHead GoesOnAtAll text.old text.new taken) }
+    ensures { IfOk result (λ taken. ReadsSpelling head_text IsHead GoesOnAtAll text.old text.new taken) }
 {
     if !text.take_text(b" ") {
         return Ok(None);
@@ -39,7 +39,7 @@ fn take_part(
     pipelines: u64,
 ) -> Result<Option<(Text, Marks)>, NoMemory>
     ensures { IfOk result (λ taken.
-        Reads (part_rest (version_of version)) (IsPart (version_of version) pipelines) NoRange
+        ReadsSpelling (part_rest (version_of version)) (IsPart (version_of version) pipelines) NoRange
         text.old text.new taken) }
 {
     let Some((name, next)) = take_head(alloc, text)? else {
@@ -65,7 +65,7 @@ pub(crate) fn take_parts(
     pipelines: u64,
 ) -> Result<Option<MarkTable>, NoMemory>
     ensures { IfOk result (λ taken.
-        Reads (parts_text (version_of version)) (AreParts (version_of version) pipelines) NoPart
+        ReadsSpelling (parts_text (version_of version)) (AreParts (version_of version) pipelines) NoPart
         text.old text.new taken) }
 {
     let mut table = MarkTable::new(alloc);

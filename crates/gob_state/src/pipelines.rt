@@ -4,7 +4,7 @@ ghost use Rattle.std.specs.List.{IsDistinct, flat_map, list_any};
 ghost use Rattle.std.specs.Str.{bytes_eq};
 ghost use Rattle.gob_ledger.specs.Spelling.{IsKeptPipeline, pipeline_part};
 ghost use Rattle.gob_text.specs.Words.{GoesOnAtAll};
-ghost use Rattle.gob_state.specs.Reads.{Reads};
+ghost use Rattle.gob_state.specs.Reads.{ReadsSpelling};
 ghost use Rattle.gob_state.specs.Settings.{ArePipelines};
 
 use crate::lines::take_numbered;
@@ -16,7 +16,7 @@ use std::collections::HashSet;
 
 /// The number of a pipeline's lines, and then its lines.
 pub fn take_pipeline(alloc: Global, text: &mut Words) -> Result<Option<Text>, NoMemory>
-    ensures { IfOk result (λ taken. Reads pipeline_part IsKeptPipeline GoesOnAtAll text.old text.new taken) }
+    ensures { IfOk result (λ taken. ReadsSpelling pipeline_part IsKeptPipeline GoesOnAtAll text.old text.new taken) }
 {
     let Some(lines) = take_numbered(text, b"pipeline") else {
         return Ok(None);
@@ -32,7 +32,7 @@ pub fn take_pipelines(
     count: u64,
 ) -> Result<Option<List<Text>>, NoMemory>
     ensures { IfOk result (λ taken.
-        Reads (λ ps. flat_map pipeline_part ps) (ArePipelines count) GoesOnAtAll text.old text.new taken) }
+        ReadsSpelling (λ ps. flat_map pipeline_part ps) (ArePipelines count) GoesOnAtAll text.old text.new taken) }
 {
     let mut pipelines = List::new(alloc);
     for _ in 0..count {

@@ -2,8 +2,8 @@
 ghost use Rattle.std.specs.Prelude.{◌≡◌, ◌≤◌, ◌++◌, ◌∷◌, [], codes, drop, length, map, IfOk, OnOk};
 ghost use Rattle.std.specs.List.{flat_map};
 ghost use Rattle.std.specs.Fmt.{decimal};
-ghost use Rattle.gob_bytes.specs.Escapes.{escaped};
-ghost use Rattle.gob_bytes.specs.Words.{numbered, words};
+ghost use Rattle.gob_bytes.specs.Escapes.{escape_of};
+ghost use Rattle.gob_bytes.specs.Words.{numbered_line, words};
 ghost use Rattle.gob_ledger.specs.Marks.{InOrder};
 ghost use Rattle.gob_ledger.specs.Spelling as spelling;
 ghost use Rattle.gob_state.specs.Written.{BeginsBehind, OpensPushed, branch_lines_from, lines_of_ranges};
@@ -15,7 +15,7 @@ use std::alloc::AllocError;
 
 /// A line of this word and these numbers.
 pub fn push_numbered(into: &mut Vec<u8>, word: &[u8], numbers: &[u64]) -> Result<(), AllocError>
-    ensures { OnOk result (into.new.items ≡ into.old.items ++ numbered word.now numbers.now) }
+    ensures { OnOk result (into.new.items ≡ into.old.items ++ numbered_line word.now numbers.now) }
 {
     into.extend_from_slice(word)?;
     for i in 0..numbers.len() {
@@ -145,7 +145,7 @@ fn push_ranges(into: &mut Vec<u8>, done: &[Done], open: &[Range]) -> Result<(), 
 // The line of a partition: its name and its end.
 fn push_head(into: &mut Vec<u8>, part: &str, next: u64) -> Result<(), AllocError>
     ensures { OnOk result (into.new.items
-        ≡ into.old.items ++ words (codes "partition") (escaped part.now ∷ decimal next ∷ [])) }
+        ≡ into.old.items ++ words (codes "partition") (escape_of part.now ∷ decimal next ∷ [])) }
 {
     into.extend_from_slice(b"partition ")?;
     push_escaped(into, part)?;

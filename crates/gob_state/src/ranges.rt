@@ -1,9 +1,9 @@
 //! The lines of ranges.
 ghost use Rattle.std.specs.Prelude.{◌≡◌, IfOk, IsFalse, IsTrue};
 ghost use Rattle.gob_text.specs.Words.{GoesOnAtAll};
-ghost use Rattle.gob_state.specs.Reads.{Reads};
-ghost use Rattle.gob_state.specs.Ranges.{AreMarks, GoesOn, IsDoneLine, IsOpenLine, NoRange, TakesRange};
-ghost use Rattle.gob_state.specs.Ranges.{done_numbers, grown, open_numbers, ranges_text};
+ghost use Rattle.gob_state.specs.Reads.{ReadsSpelling};
+ghost use Rattle.gob_state.specs.Ranges.{AreMarks, RangeGoesOn, IsDoneLine, IsOpenLine, NoRange, TakesRange};
+ghost use Rattle.gob_state.specs.Ranges.{done_numbers, grown_marks, open_range_text, ranges_text};
 ghost use Rattle.gob_state.specs.Versions.{version_of};
 
 use crate::Version;
@@ -22,7 +22,7 @@ pub enum RangeLine {
 
 // The numbers of a done range, which stand behind its word. In the first version its pipeline is the only one.
 fn take_done(text: &mut Words, version: Version) -> Option<Done>
-    ensures { Reads (done_numbers (version_of version)) (IsDoneLine (version_of version)) GoesOnAtAll
+    ensures { ReadsSpelling (done_numbers (version_of version)) (IsDoneLine (version_of version)) GoesOnAtAll
         text.old text.new result }
 {
     match version {
@@ -41,7 +41,7 @@ fn take_done(text: &mut Words, version: Version) -> Option<Done>
 
 // The numbers of an open range, which stand behind its word.
 fn take_open(text: &mut Words) -> Option<Range>
-    ensures { Reads open_numbers IsOpenLine GoesOnAtAll text.old text.new result }
+    ensures { ReadsSpelling open_range_text IsOpenLine GoesOnAtAll text.old text.new result }
 {
     let (lo, hi) = take_pair(text)?;
     Some(Range { lo, hi })
@@ -65,8 +65,8 @@ pub fn take_range(text: &mut Words, version: Version) -> Option<Option<RangeLine
 // Adds a range, where it begins at the end of the others and its pipeline is one of so many.
 fn add_range(marks: &mut Marks, line: RangeLine, pipelines: u64) -> Result<bool, NoMemory>
     ensures added { IfOk result (λ added. IsTrue added
-        → GoesOn pipelines marks.old line × (marks.new ≡ grown line marks.old)) }
-    ensures refused { IfOk result (λ added. IsFalse added → GoesOn pipelines marks.old line → ⊥) }
+        → RangeGoesOn pipelines marks.old line × (marks.new ≡ grown_marks line marks.old)) }
+    ensures refused { IfOk result (λ added. IsFalse added → RangeGoesOn pipelines marks.old line → ⊥) }
 {
     match line {
         RangeLine::Done(done) => {
@@ -94,7 +94,7 @@ pub(crate) fn take_ranges(
     pipelines: u64,
 ) -> Result<Option<Marks>, NoMemory>
     ensures { IfOk result (λ taken.
-        Reads (ranges_text (version_of version)) (AreMarks (version_of version) pipelines) NoRange
+        ReadsSpelling (ranges_text (version_of version)) (AreMarks (version_of version) pipelines) NoRange
         text.old text.new taken) }
 {
     let mut marks = Marks::new(alloc);

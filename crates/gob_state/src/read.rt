@@ -6,7 +6,7 @@ ghost use Rattle.gob_text.specs.Words.{GoesOnAtAll};
 ghost use Rattle.gob_state.specs.Files.{AreCounted, ArePipelinesOf, CountFits, IsToldBy, NoStateIn, count_line};
 ghost use Rattle.gob_state.specs.Files.{counted_text, state_rest};
 ghost use Rattle.gob_state.specs.Parts.{NoPart};
-ghost use Rattle.gob_state.specs.Reads.{Reads};
+ghost use Rattle.gob_state.specs.Reads.{ReadsSpelling};
 ghost use Rattle.gob_state.specs.Versions.{version_of};
 
 use crate::counts::take_totals;
@@ -22,7 +22,7 @@ use std::alloc::Global;
 
 // How many pipelines there are. In the first version there is one.
 fn take_count(text: &mut Words, version: Version) -> Option<u64>
-    ensures { Reads (count_line (version_of version)) (CountFits (version_of version)) GoesOnAtAll
+    ensures { ReadsSpelling (count_line (version_of version)) (CountFits (version_of version)) GoesOnAtAll
         text.old text.new result }
 {
     match version {
@@ -38,7 +38,7 @@ fn take_all_pipelines(
     version: Version,
 ) -> Result<Option<List<Text>>, NoMemory>
     ensures { IfOk result (λ taken.
-        Reads (spelling.pipelines_text (version_of version)) (ArePipelinesOf (version_of version)) GoesOnAtAll
+        ReadsSpelling (spelling.pipelines_text (version_of version)) (ArePipelinesOf (version_of version)) GoesOnAtAll
         text.old text.new taken) }
 {
     let Some(count) = take_count(text, version) else {
@@ -61,7 +61,7 @@ fn take_counted(
     pipelines: u64,
 ) -> Result<Option<(Counts, MarkTable)>, NoMemory>
     ensures { IfOk result (λ taken.
-        Reads (counted_text (version_of version)) (AreCounted (version_of version) pipelines) NoPart
+        ReadsSpelling (counted_text (version_of version)) (AreCounted (version_of version) pipelines) NoPart
         text.old text.new taken) }
 {
     let Some(totals) = take_totals(alloc, text)? else {
@@ -76,7 +76,7 @@ fn take_counted(
 // All but the first and the last line.
 fn take_state(alloc: Global, text: &mut Words, version: Version) -> Result<Option<State>, NoMemory>
     ensures { IfOk result (λ taken.
-        Reads (state_rest (version_of version)) (IsToldBy (version_of version)) NoPart text.old text.new taken) }
+        ReadsSpelling (state_rest (version_of version)) (IsToldBy (version_of version)) NoPart text.old text.new taken) }
 {
     let Some(run) = take_numbered(text, b"run") else {
         return Ok(None);

@@ -4,7 +4,7 @@ ghost use Rattle.std.specs.Option.{option_copied};
 ghost use Rattle.std.specs.List.{list_all};
 ghost use Rattle.gob_jobs.specs.Pipelines.{is_key};
 ghost use Rattle.gob_text.specs.Words.{GoesOnAtAll, IsLine};
-ghost use Rattle.gob_state.specs.Reads.{Reads};
+ghost use Rattle.gob_state.specs.Reads.{ReadsSpelling};
 ghost use Rattle.gob_state.specs.Settings.{is_key_byte, IsSettingLine, IsSettingsText, whole_line};
 
 use gob_plan::{NoMemory, Text};
@@ -51,7 +51,7 @@ fn is_setting(alloc: Global, line: &str) -> Result<bool, NoMemory>
 // A line that sets a key, without its end.
 fn take_setting<'a>(alloc: Global, text: &mut Words<'a>) -> Result<Option<&'a str>, NoMemory>
     ensures { IfOk result (λ taken.
-        Reads whole_line IsSettingLine GoesOnAtAll text.old text.new (option_copied taken)) }
+        ReadsSpelling whole_line IsSettingLine GoesOnAtAll text.old text.new (option_copied taken)) }
 {
     let Some(bytes) = text.take_line() else {
         return Ok(None);
@@ -72,7 +72,7 @@ pub(crate) fn take_settings(
     text: &mut Words,
     lines: u64,
 ) -> Result<Option<Text>, NoMemory>
-    ensures { IfOk result (λ taken. Reads (λ p. p) (IsSettingsText lines) GoesOnAtAll text.old text.new taken) }
+    ensures { IfOk result (λ taken. ReadsSpelling (λ p. p) (IsSettingsText lines) GoesOnAtAll text.old text.new taken) }
 {
     let mut settings = Text::new(alloc);
     for _ in 0..lines {

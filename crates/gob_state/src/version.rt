@@ -1,9 +1,9 @@
 //! Versions of files.
 ghost use Rattle.std.specs.Prelude.{◌≡◌, ◌∷◌, []};
-ghost use Rattle.gob_bytes.specs.Words.{numbered};
+ghost use Rattle.gob_bytes.specs.Words.{numbered_line};
 ghost use Rattle.gob_ledger.specs.Spelling.{version_number};
 ghost use Rattle.gob_text.specs.Words.{GoesOnAtAll};
-ghost use Rattle.gob_state.specs.Reads.{Reads};
+ghost use Rattle.gob_state.specs.Reads.{ReadsSpelling};
 ghost use Rattle.gob_state.specs.Versions.{AnyVersion, version_line, version_of};
 
 use crate::lines::take_numbered;
@@ -18,7 +18,7 @@ pub enum Version {
 
 /// Takes the first line of a file of this kind.
 pub fn take_version(text: &mut Words, kind: &[u8]) -> Option<Version>
-    ensures { Reads (version_line kind.now) AnyVersion GoesOnAtAll text.old text.new result }
+    ensures { ReadsSpelling (version_line kind.now) AnyVersion GoesOnAtAll text.old text.new result }
 {
     match take_numbered(text, kind)? {
         1 => Some(Version::First),

@@ -26,8 +26,8 @@ use Rattle.gob_meaning.specs.Steps.{with_column, is_full, each_kind, columns_aft
 use Rattle.gob_meaning.specs.Steps.{pieces_of, with_value, row_with_value, row_for_each_piece}
 use Rattle.gob_meaning.proofs.StepColumns.{told_missing, told_kind, columns_parts}
 use Rattle.gob_meaning.proofs.StepRows.{step_keeps}
-use Rattle.gob_steps.specs.Changes.{change_of}
-use Rattle.gob_steps.specs.Places.{place_of, places_of, values_at, is_below, are_apart, name_of, kept_by, changes_one}
+use Rattle.gob_steps.specs.Changes.{value_change_of}
+use Rattle.gob_steps.specs.Places.{column_place, places_of, values_at, is_below, are_apart, name_of, kept_by, changes_one}
 use Rattle.gob_steps.specs.Places.{makes_many, row_with, rows_of_pieces}
 use Rattle.gob_steps.proofs.Named.{AtPlace, at_place, stands_there, all_there, there_from_kind, values_kept}
 use Rattle.gob_steps.proofs.Named.{places_below, places_apart, place_behind, named_there, named_values, left_there}
@@ -169,8 +169,8 @@ drop_made names columns after kept row r proper told places fit is =
 
 pub set_made : (name : List ℕ) (k : Kind) (v : Value) (columns : List Column) (row r : Row)
     → values_conform columns row.values ≡ true
-    → (place_of name columns < length row.values → r.values ≡ set row.values (place_of name columns) v)
-    → (place_of name columns ≡ length row.values → r.values ≡ row.values ++ v ∷ [])
+    → (column_place name columns < length row.values → r.values ≡ set row.values (column_place name columns) v)
+    → (column_place name columns ≡ length row.values → r.values ≡ row.values ++ v ∷ [])
     → step_rows (step.Set name k v) columns row ≡ Some (r ∷ [])
 unfolding step_rows
 set_made name k v columns row r fit there behind =
@@ -180,8 +180,8 @@ set_made name k v columns row r fit there behind =
     (λ away. sym (behind (place_behind name columns row.values fit away))))
 
 pub copy_made : (from to : List ℕ) (columns : List Column) (row r : Row)
-    → AtPlace from columns row.values (place_of from columns)
-    → r.values ≡ row.values ++ get_or row.values (place_of from columns) value.Null ∷ []
+    → AtPlace from columns row.values (column_place from columns)
+    → r.values ≡ row.values ++ get_or row.values (column_place from columns) value.Null ∷ []
     → step_rows (step.Copy from to) columns row ≡ Some (r ∷ [])
 unfolding step_rows
 copy_made from to columns row r at is = ap one_row (sym (is ∙ ap (λ v. row.values ++ v ∷ []) at.value))
@@ -194,7 +194,7 @@ rename_made from to columns row = refl
 -- one value changed
 abbrev pub changed_row : StepSpec → Row → ℕ → Made Row
 changed_row s row k =
-    option_map (λ w. record { values = set row.values k w } ∷ []) (change_of s (get_or row.values k value.Null))
+    option_map (λ w. record { values = set row.values k w } ∷ []) (value_change_of s (get_or row.values k value.Null))
 
 by_place : (f : Value → Option Value) (name : List ℕ) (columns : List Column) (row : Row) (k : ℕ)
     → AtPlace name columns row.values k
@@ -254,7 +254,7 @@ explode_made name separator columns row k at =
 
 -- its own column, where that must be there
 pub own_at : (s : StepSpec) (columns after : List Column) (place : ℕ) (values : List Value)
-    → columns_after s columns ≡ Ok after → needs_own s ≡ true → place ≡ place_of (name_of s) columns
+    → columns_after s columns ≡ Ok after → needs_own s ≡ true → place ≡ column_place (name_of s) columns
     → values_conform columns values ≡ true → AtPlace (name_of s) columns values place
 own_at s columns after place values told needs is fit =
     subst (AtPlace (name_of s) columns values) (sym is)
@@ -307,23 +307,23 @@ pub rename_step : (s : StepSpec) (from to : List ℕ) (columns : List Column) (r
 rename_step s from to columns row is = ap (λ x. step_rows x columns row) is ∙ rename_made from to columns row
 
 pub set_step : (s : StepSpec) (name : List ℕ) (k : Kind) (v : Value) (columns : List Column) (place : ℕ) (row r : Row)
-    → s ≡ step.Set name k v → place ≡ place_of (name_of s) columns → values_conform columns row.values ≡ true
+    → s ≡ step.Set name k v → place ≡ column_place (name_of s) columns → values_conform columns row.values ≡ true
     → (place < length row.values → r.values ≡ set row.values place v)
     → (place ≡ length row.values → r.values ≡ row.values ++ v ∷ [])
     → step_rows s columns row ≡ Some (r ∷ [])
 set_step s name k v columns place row r is own fit there behind =
-    let at : place ≡ place_of name columns = own ∙ ap (λ x. place_of (name_of x) columns) is in
+    let at : place ≡ column_place name columns = own ∙ ap (λ x. column_place (name_of x) columns) is in
     ap (λ x. step_rows x columns row) is
     ∙ set_made name k v columns row r fit
     (subst (λ p. p < length row.values → r.values ≡ set row.values p v) at there)
     (subst (λ p. p ≡ length row.values → r.values ≡ row.values ++ v ∷ []) at behind)
 
 pub copy_step : (s : StepSpec) (from to : List ℕ) (columns after : List Column) (place : ℕ) (row r : Row)
-    → s ≡ step.Copy from to → columns_after s columns ≡ Ok after → place ≡ place_of (name_of s) columns
+    → s ≡ step.Copy from to → columns_after s columns ≡ Ok after → place ≡ column_place (name_of s) columns
     → values_conform columns row.values ≡ true → r.values ≡ row.values ++ get_or row.values place value.Null ∷ []
     → step_rows s columns row ≡ Some (r ∷ [])
 copy_step s from to columns after place row r is told own fit made =
-    let at : place ≡ place_of from columns = own ∙ ap (λ x. place_of (name_of x) columns) is in
+    let at : place ≡ column_place from columns = own ∙ ap (λ x. column_place (name_of x) columns) is in
     let there : is_there from columns ≡ true =
     ap (λ x. is_there (name_of x) columns) (sym is) ∙ own_there s columns after told (ap needs_own is) in
     ap (λ x. step_rows x columns row) is
@@ -353,12 +353,12 @@ pub record CanAsk (test : TestSpec) (columns : List Column) (place : ℕ) : Type
   pub stands : stands_at test.column columns place ≡ true
 
 pub can_ask : (s : StepSpec) (test : TestSpec) (columns after : List Column) (place : ℕ) → s ≡ step.Where test
-    → columns_after s columns ≡ Ok after → place ≡ place_of (name_of s) columns → CanAsk test columns place
+    → columns_after s columns ≡ Ok after → place ≡ column_place (name_of s) columns → CanAsk test columns place
 unfolding columns_after
 can_ask s test columns after place is told own =
     let there : is_there test.column columns ≡ true =
     ap (λ x. is_there (name_of x) columns) (sym is) ∙ own_there s columns after told (ap needs_own is) in
-    let at : place ≡ place_of test.column columns = own ∙ ap (λ x. place_of (name_of x) columns) is in
+    let at : place ≡ column_place test.column columns = own ∙ ap (λ x. column_place (name_of x) columns) is in
     let asked : columns_after (step.Where test) columns ≡ Ok after =
     ap (λ x. columns_after x columns) (sym is) ∙ told in
     let t = told_kind test.column (check_takes test.check) (λ k. not (check_is_right test.check k)) (λ k. columns)

@@ -17,7 +17,7 @@ use Rattle.gob_rowcheck.specs.Places.{is_at, stands_at}
 use Rattle.gob_rowcheck.proofs.Places.{Stands, value_at, stands_cases, stands_nowhere}
 use Rattle.gob_meaning.specs.Steps.{is_among, first_missing, columns_named, columns_but, other_values, with_value}
 use Rattle.gob_meaning.proofs.PlainLines.{or_parts}
-use Rattle.gob_steps.specs.Places.{place_of, places_of, values_at, is_below, is_place_among, are_apart}
+use Rattle.gob_steps.specs.Places.{column_place, places_of, values_at, is_below, is_place_among, are_apart}
 
 -- ---- a name that is there
 
@@ -32,13 +32,13 @@ there_from_kind name (c ∷ cs) k is =
     is
 
 place_within : (name : List ℕ) (columns : List Column) → is_there name columns ≡ true
-    → place_of name columns < length columns
+    → column_place name columns < length columns
 place_within name [] there = cc
 place_within name (c ∷ cs) there =
     either (bytes_eq c.name name) refl (place_within name cs) there
   where
-    either : (b : Bool) → bytes_eq c.name name ≡ b → (is_there name cs ≡ true → place_of name cs < length cs)
-        → (bytes_eq c.name name || is_there name cs) ≡ true → place_of name (c ∷ cs) < length (c ∷ cs)
+    either : (b : Bool) → bytes_eq c.name name ≡ b → (is_there name cs ≡ true → column_place name cs < length cs)
+        → (bytes_eq c.name name || is_there name cs) ≡ true → column_place name (c ∷ cs) < length (c ∷ cs)
     either true e more there = rw e (omega arith)
     either false e more there =
         let later = more (let h = rw e at there in h) in
@@ -46,31 +46,31 @@ place_within name (c ∷ cs) there =
 
 -- a name that no look-up finds has the place behind the last
 pub place_none : (name : List ℕ) (columns : List Column) → None ≡ position_of name columns
-    → length columns ≡ place_of name columns
+    → length columns ≡ column_place name columns
 place_none name columns none =
-    either (nat_lt (place_of name columns) (length columns)) refl none (at_most name columns)
+    either (nat_lt (column_place name columns) (length columns)) refl none (at_most name columns)
   where
-    at_most : (name : List ℕ) (columns : List Column) → place_of name columns ≤ length columns
+    at_most : (name : List ℕ) (columns : List Column) → column_place name columns ≤ length columns
     at_most name [] = omega arith
     at_most name (c ∷ cs) =
         let later = at_most name cs in
-        elim (bytes_eq c.name name) as (λ b. cond (not b) (1 + place_of name cs) 0 ≤ suc (length cs)) [
+        elim (bytes_eq c.name name) as (λ b. cond (not b) (1 + column_place name cs) 0 ≤ suc (length cs)) [
           | true ↦ omega arith
           | false ↦ omega arith
         ]
 
-    either : (b : Bool) → nat_lt (place_of name columns) (length columns) ≡ b
-        → None ≡ cond b (Some (place_of name columns)) None → place_of name columns ≤ length columns
-        → length columns ≡ place_of name columns
+    either : (b : Bool) → nat_lt (column_place name columns) (length columns) ≡ b
+        → None ≡ cond b (Some (column_place name columns)) None → column_place name columns ≤ length columns
+        → length columns ≡ column_place name columns
     either true e is few = cc
     either false e is few =
-        let above : length columns ≤ place_of name columns = grind (arith, nat_tests) in
+        let above : length columns ≤ column_place name columns = grind (arith, nat_tests) in
         omega arith
 
 -- it stands at its place
 pub stands_there : (name : List ℕ) (columns : List Column) → is_there name columns ≡ true
-    → stands_at name columns (place_of name columns) ≡ true
-stands_there name columns there = at_place (place_of name columns) (length columns) (place_within name columns there)
+    → stands_at name columns (column_place name columns) ≡ true
+stands_there name columns there = at_place (column_place name columns) (length columns) (place_within name columns there)
   where
     at_place : (n m : ℕ) → n < m → is_at (cond (nat_lt n m) (Some n) None) n ≡ true
     at_place n m below = rw (lt-ltb n m below) (grind (arith, nat_tests))
@@ -121,19 +121,19 @@ put_at name w (c ∷ cs) (v ∷ vs) k fit is =
         rw (behind.0, behind.1.1) (ap (λ rest. v ∷ rest) (later behind.1.0 behind.1.2))
 
 pub at_place : (name : List ℕ) (columns : List Column) (values : List Value) → values_conform columns values ≡ true
-    → is_there name columns ≡ true → AtPlace name columns values (place_of name columns)
+    → is_there name columns ≡ true → AtPlace name columns values (column_place name columns)
 at_place name columns values fit there =
     let stands = stands_there name columns there in
-    let at = value_at name columns values (place_of name columns) fit stands in
+    let at = value_at name columns values (column_place name columns) fit stands in
     record {
       below = at.there;
       value = at.value value.Null;
-      put = λ w. put_at name w columns values (place_of name columns) fit stands;
+      put = λ w. put_at name w columns values (column_place name columns) fit stands;
     }
 
 -- the place of a name that isn't there is behind the last
 pub place_behind : (name : List ℕ) (columns : List Column) (values : List Value) → values_conform columns values ≡ true
-    → is_there name columns ≡ false → place_of name columns ≡ length values
+    → is_there name columns ≡ false → column_place name columns ≡ length values
 place_behind name [] [] fit none = refl
 place_behind name [] (v ∷ vs) fit none = cc
 place_behind name (c ∷ cs) [] fit none = cc
@@ -163,19 +163,19 @@ places_below [] columns values fit there = refl
 places_below (d ∷ ds) columns values fit there =
     let parts = and_parts (is_there d.name columns) (all_there ds columns) there in
     let at = at_place d.name columns values fit parts.0 in
-    and_from (is_below (length values) (place_of d.name columns)) _
-    (lt-ltb (place_of d.name columns) (length values) at.below) (places_below ds columns values fit parts.1)
+    and_from (is_below (length values) (column_place d.name columns)) _
+    (lt-ltb (column_place d.name columns) (length values) at.below) (places_below ds columns values fit parts.1)
 
 place_not_among : (d : Column) (ds columns : List Column) → is_there d.name columns ≡ true
     → all_there ds columns ≡ true → is_there d.name ds ≡ false
-    → is_place_among (place_of d.name columns) (places_of ds columns) ≡ false
+    → is_place_among (column_place d.name columns) (places_of ds columns) ≡ false
 place_not_among d [] columns here there none = refl
 place_not_among d (e ∷ es) columns here there none =
     let parts = and_parts (is_there e.name columns) (all_there es columns) there in
     let apart = or_parts (bytes_eq e.name d.name) (is_there d.name es) none in
     rw (
-      ne_eqb (place_of e.name columns) (place_of d.name columns) (λ same. true≢false
-          (sym (name_itself d.name) ∙ (let h = rw (one_name e.name d.name columns (place_of e.name columns)
+      ne_eqb (column_place e.name columns) (column_place d.name columns) (λ same. true≢false
+          (sym (name_itself d.name) ∙ (let h = rw (one_name e.name d.name columns (column_place e.name columns)
           (stands_there e.name columns parts.0)
           (subst (λ k. stands_at d.name columns k ≡ true) (sym same) (stands_there d.name columns here))) at apart.0
           in h))),
@@ -188,7 +188,7 @@ places_apart [] columns there apart = refl
 places_apart (d ∷ ds) columns there apart =
     let parts = and_parts (is_there d.name columns) (all_there ds columns) there in
     let alone = and_parts (not (is_there d.name ds)) (distinct ds) apart in
-    and_from (not (is_place_among (place_of d.name columns) (places_of ds columns))) _
+    and_from (not (is_place_among (column_place d.name columns) (places_of ds columns))) _
     (rw (place_not_among d ds columns parts.0 parts.1 (not-true (is_there d.name ds) alone.0)) refl)
     (places_apart ds columns parts.1 alone.1)
 

@@ -16,19 +16,19 @@ use Rattle.gob_plan.specs.Columns.{is_there}
 use Rattle.gob_plan.specs.Rows.{is_of, kind_of}
 use Rattle.gob_meaning.specs.Steps.{first_missing, are_bad_names, columns_named, columns_but, with_new_kind}
 use Rattle.gob_meaning.specs.Steps.{with_column, is_full, unless_missing, of_kind, columns_after}
-use Rattle.gob_steps.specs.Told.{Tells}
+use Rattle.gob_steps.specs.Told.{TellsColumns}
 
 pub told_after : (s : StepSpec) (columns after : List Column) → columns_after s columns ≡ Ok after
-    → Tells s columns (Ok after)
+    → TellsColumns s columns (Ok after)
 told_after s columns after is = (is, tt)
 
 pub told_refused : (s : StepSpec) (columns : List Column) (why : Refusal) (fault : StepFault)
-    → columns_after s columns ≡ Err why → fault ≡ Refused why → Tells s columns (Err fault)
+    → columns_after s columns ≡ Err why → fault ≡ Refused why → TellsColumns s columns (Err fault)
 told_refused s columns why fault is told = (tt, λ other same. let one : why ≡ other = cc in is ∙ ap Err one)
 
 -- no memory was left
 pub told_nothing : (s : StepSpec) (columns : List Column) (r : Result (List Column) StepFault)
-    → IsErrAnd r (λ e. e ≡ Memory) → Tells s columns r
+    → IsErrAnd r (λ e. e ≡ Memory) → TellsColumns s columns r
 told_nothing s columns r is =
     let exit = err_from_is_err_and r is in
     rw (exit.1, exit.2) (tt, λ why same. cc)

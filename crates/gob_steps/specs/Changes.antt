@@ -8,14 +8,14 @@ use Rattle.gob_meaning.specs.Values.{cast}
 use Rattle.gob_meaning.specs.Steps.{on_text}
 
 -- the steps that change one value, and the others, which leave it
-abbrev pub change_of : StepSpec → Value → Option Value
-change_of (step.Keep names) v = Some v
-change_of (step.Drop names) v = Some v
-change_of (step.Rename from to) v = Some v
-change_of (step.Cast name to) v = cast to v
-change_of (step.Set name k w) v = Some v
-change_of (step.Copy from to) v = Some v
-change_of (step.Explode name separator) v = Some v
-change_of (step.Where test) v = Some v
-change_of (step.Upper name) v = on_text str_to_ascii_uppercase v
-change_of (step.Lower name) v = on_text str_to_ascii_lowercase v
+abbrev pub value_change_of : StepSpec → Value → Option Value
+value_change_of (step.Keep names) v = Some v
+value_change_of (step.Drop names) v = Some v
+value_change_of (step.Rename from to) v = Some v
+value_change_of (step.Cast name to) v = cast to v
+value_change_of (step.Set name k w) v = Some v
+value_change_of (step.Copy from to) v = Some v
+value_change_of (step.Explode name separator) v = Some v
+value_change_of (step.Where test) v = Some v
+value_change_of (step.Upper name) v = on_text str_to_ascii_uppercase v
+value_change_of (step.Lower name) v = on_text str_to_ascii_lowercase v

@@ -18,12 +18,12 @@ abbrev pub column_of : List ℕ → List Column → Column
 column_of name columns = record { name = name; kind = unwrap_or (kind_of name columns) kind.Text }
 
 -- where the first column with this name stands, behind the last where none has it
-abbrev pub place_of : List ℕ → List Column → ℕ
-place_of name columns = position_or_len (λ c. bytes_eq c.name name) columns
+abbrev pub column_place : List ℕ → List Column → ℕ
+column_place name columns = position_or_len (λ c. bytes_eq c.name name) columns
 
 -- the places of columns with the names of these
 abbrev pub places_of : List Column → List Column → List ℕ
-places_of kept columns = map (λ d. place_of d.name columns) kept
+places_of kept columns = map (λ d. column_place d.name columns) kept
 
 -- the values at these places
 abbrev pub values_at : List ℕ → List Value → List Value

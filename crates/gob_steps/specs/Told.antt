@@ -8,7 +8,7 @@ use Rattle.gob_plan.specs.declared.steps.StepFault.TheVariants.{Refused}
 use Rattle.gob_meaning.specs.Steps.{columns_after}
 
 -- they are these, or the step is refused and this is why; or no memory was left
-abbrev pub Tells : StepSpec → List Column → Result (List Column) StepFault → Type 0
-Tells spec columns result =
+abbrev pub TellsColumns : StepSpec → List Column → Result (List Column) StepFault → Type 0
+TellsColumns spec columns result =
     IfOk result (λ after. columns_after spec columns ≡ Ok after)
     × IfErr result (λ e. (why : Refusal) → e ≡ Refused why → columns_after spec columns ≡ Err why)

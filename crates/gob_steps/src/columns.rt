@@ -6,7 +6,7 @@ ghost use Rattle.gob_plan.specs.declared.steps.Refusal.{Refusal as Why};
 ghost use Rattle.gob_plan.specs.declared.steps.StepSpec.{StepSpec as Spec};
 ghost use Rattle.gob_plan.specs.Tests.{check_is_right, check_takes};
 ghost use Rattle.gob_plan.specs.Rows as rows;
-ghost use Rattle.gob_steps.specs.Told.{Tells};
+ghost use Rattle.gob_steps.specs.Told.{TellsColumns};
 
 use crate::names::{
     are_bad_names, columns_but, columns_named, first_missing, is_there, kind_of, same, with_column,
@@ -26,7 +26,7 @@ pub(crate) fn columns_after(
     spec: &StepSpec,
     columns: &Columns,
 ) -> Result<List<Column>, StepFault>
-    ensures { Tells spec.now columns.now result }
+    ensures { TellsColumns spec.now columns.now result }
 {
     match spec {
         StepSpec::Keep { columns: names } => keep(alloc, names.as_slice(), columns),
@@ -67,7 +67,7 @@ fn bad_kind(column: &Text) -> Result<StepFault, NoMemory>
 }
 
 fn keep(alloc: Global, names: &[Text], columns: &Columns) -> Result<List<Column>, StepFault>
-    ensures { Tells (Spec.Keep names.now) columns.now result }
+    ensures { TellsColumns (Spec.Keep names.now) columns.now result }
 {
     if let Some(name) = first_missing(names, columns) {
         return Err(no_column(name)?);
@@ -79,7 +79,7 @@ fn keep(alloc: Global, names: &[Text], columns: &Columns) -> Result<List<Column>
 }
 
 fn drop_named(alloc: Global, names: &[Text], columns: &Columns) -> Result<List<Column>, StepFault>
-    ensures { Tells (Spec.Drop names.now) columns.now result }
+    ensures { TellsColumns (Spec.Drop names.now) columns.now result }
 {
     if let Some(name) = first_missing(names, columns) {
         return Err(no_column(name)?);
@@ -100,7 +100,7 @@ fn rename(
     to: &Text,
     columns: &Columns,
 ) -> Result<List<Column>, StepFault>
-    ensures { Tells (Spec.Rename from.now to.now) columns.now result }
+    ensures { TellsColumns (Spec.Rename from.now to.now) columns.now result }
 {
     let Some(_) = kind_of(from.as_str(), columns) else {
         return Err(no_column(from)?);
@@ -117,7 +117,7 @@ fn cast(
     kind: Kind,
     columns: &Columns,
 ) -> Result<List<Column>, StepFault>
-    ensures { Tells (Spec.Cast column.now kind) columns.now result }
+    ensures { TellsColumns (Spec.Cast column.now kind) columns.now result }
 {
     let Some(_) = kind_of(column.as_str(), columns) else {
         return Err(no_column(column)?);
@@ -132,7 +132,7 @@ fn set(
     value: &Value,
     columns: &Columns,
 ) -> Result<List<Column>, StepFault>
-    ensures { Tells (Spec.Set column.now kind value.now) columns.now result }
+    ensures { TellsColumns (Spec.Set column.now kind value.now) columns.now result }
 {
     if !is_of(kind, value) {
         return Err(bad_value());
@@ -147,7 +147,7 @@ fn set(
 }
 
 fn copy(alloc: Global, from: &Text, to: &Text, columns: &Columns) -> Result<List<Column>, StepFault>
-    ensures { Tells (Spec.Copy from.now to.now) columns.now result }
+    ensures { TellsColumns (Spec.Copy from.now to.now) columns.now result }
 {
     let Some(kind) = kind_of(from.as_str(), columns) else {
         return Err(no_column(from)?);
@@ -162,7 +162,7 @@ fn copy(alloc: Global, from: &Text, to: &Text, columns: &Columns) -> Result<List
 }
 
 fn of_text(alloc: Global, column: &Text, columns: &Columns) -> Result<List<Column>, StepFault>
-    ensures { Tells (Spec.Upper column.now) columns.now result }
+    ensures { TellsColumns (Spec.Upper column.now) columns.now result }
 {
     let Some(kind) = kind_of(column.as_str(), columns) else {
         return Err(no_column(column)?);
@@ -179,7 +179,7 @@ fn explode(
     separator: &Text,
     columns: &Columns,
 ) -> Result<List<Column>, StepFault>
-    ensures { Tells (Spec.Explode column.now separator.now) columns.now result }
+    ensures { TellsColumns (Spec.Explode column.now separator.now) columns.now result }
 {
     let Some(kind) = kind_of(column.as_str(), columns) else {
         return Err(no_column(column)?);
@@ -194,7 +194,7 @@ fn explode(
 }
 
 fn select(alloc: Global, test: &TestSpec, columns: &Columns) -> Result<List<Column>, StepFault>
-    ensures { Tells (Spec.Where test.now) columns.now result }
+    ensures { TellsColumns (Spec.Where test.now) columns.now result }
 {
     let Some(kind) = kind_of(test.column.as_str(), columns) else {
         return Err(no_column(&test.column)?);

@@ -2,7 +2,7 @@
 
 ghost use Rattle.std.specs.Prelude.{◌≡◌, IfOk, true};
 ghost use Rattle.gob_plan.specs.Columns.{is_columns};
-ghost use Rattle.gob_steps.specs.Places.{kept_by, name_of, place_of, places_of};
+ghost use Rattle.gob_steps.specs.Places.{kept_by, name_of, column_place, places_of};
 
 use gob_plan::{Column, Columns, NoMemory, StepSpec};
 use std::alloc::Global;
@@ -34,7 +34,7 @@ pub(crate) fn own_name(spec: &StepSpec) -> &str
 
 /// The place of the column with this name, or the one behind the last where it isn't there.
 pub(crate) fn place_named(name: &str, columns: &Columns) -> usize
-    ensures place { result ≡ place_of name.now columns.now }
+    ensures place { result ≡ column_place name.now columns.now }
     ensures proper { is_columns columns.now ≡ true }
 {
     let behind = columns.len();

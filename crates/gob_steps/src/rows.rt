@@ -6,7 +6,7 @@ ghost use Rattle.std.specs.List.{list_all};
 ghost use Rattle.std.specs.Option.{option_map};
 ghost use Rattle.gob_plan.specs.declared.rows.Value.TheVariants as value;
 ghost use Rattle.gob_convert.specs.declared.convert.ConvertFault.{ConvertFault as Fault};
-ghost use Rattle.gob_steps.specs.Changes.{change_of};
+ghost use Rattle.gob_steps.specs.Changes.{value_change_of};
 ghost use Rattle.gob_steps.specs.Places.{are_apart, is_below, values_at};
 
 use crate::values::changed;
@@ -38,10 +38,10 @@ pub(crate) fn with_change(
 ) -> Result<Row, ConvertFault>
     requires { place < length row.values }
     ensures ok { IfOk result (λ r.
-        option_map (λ w. slice_set row.values place w) (change_of spec.now (get_or row.values place value.Null))
+        option_map (λ w. slice_set row.values place w) (value_change_of spec.now (get_or row.values place value.Null))
         ≡ Some r.values) }
     ensures bad { IfErr result (λ e. e ≡ Fault.Bad
-        → change_of spec.now (get_or row.values place value.Null) ≡ None) }
+        → value_change_of spec.now (get_or row.values place value.Null) ≡ None) }
 {
     let mut values = row.values.into_vec();
     let old = mem::replace(&mut values[place], Value::Null);

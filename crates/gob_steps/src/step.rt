@@ -12,7 +12,7 @@ ghost use Rattle.gob_convert.specs.Made.{concatenation};
 ghost use Rattle.gob_convert.specs.declared.convert.ConvertFault.{ConvertFault as Cause};
 ghost use Rattle.gob_meaning.specs.Steps as meaning;
 ghost use Rattle.gob_meaning.proofs.StepRows.{step_keeps};
-ghost use Rattle.gob_steps.specs.Places.{changes_one, kept_by, makes_many, name_of, place_of, places_of};
+ghost use Rattle.gob_steps.specs.Places.{changes_one, kept_by, makes_many, name_of, column_place, places_of};
 
 use crate::columns::columns_after;
 use crate::pieces::push_pieces;
@@ -35,7 +35,7 @@ pub struct Step {
     kept: Vec<usize>,
     ghost proper: { is_columns columns ≡ true },
     ghost told: { meaning.columns_after spec columns ≡ Ok after },
-    ghost own: { place ≡ place_of (name_of spec) columns },
+    ghost own: { place ≡ column_place (name_of spec) columns },
     ghost keeps: { kept.items ≡ places_of (kept_by spec after) columns },
 }
 

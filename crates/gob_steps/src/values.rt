@@ -5,7 +5,7 @@ ghost use Rattle.std.specs.Str.{str_to_ascii_lowercase, str_to_ascii_uppercase};
 ghost use Rattle.gob_plan.specs.declared.rows.Value.TheVariants as value;
 ghost use Rattle.gob_convert.specs.declared.convert.ConvertFault.{ConvertFault as Fault};
 ghost use Rattle.gob_meaning.specs.Values as meaning;
-ghost use Rattle.gob_steps.specs.Changes.{change_of};
+ghost use Rattle.gob_steps.specs.Changes.{value_change_of};
 
 use gob_convert::ConvertFault;
 use gob_plan::{Kind, NoMemory, StepSpec, Text, Value};
@@ -15,8 +15,8 @@ use std::alloc::Global;
 
 /// What the step makes of the value in its column.
 pub(crate) fn changed(alloc: Global, spec: &StepSpec, value: Value) -> Result<Value, ConvertFault>
-    ensures ok { IfOk result (λ v. change_of spec.now value ≡ Some v) }
-    ensures bad { IfErr result (λ e. e ≡ Fault.Bad → change_of spec.now value ≡ None) }
+    ensures ok { IfOk result (λ v. value_change_of spec.now value ≡ Some v) }
+    ensures bad { IfErr result (λ e. e ≡ Fault.Bad → value_change_of spec.now value ≡ None) }
 {
     match (spec, value) {
         (StepSpec::Cast { column: _, kind }, value) => cast(alloc, *kind, value),

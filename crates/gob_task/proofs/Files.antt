@@ -28,7 +28,7 @@ use Rattle.gob_plan.specs.declared.plan.Plan.{Plan}
 use Rattle.gob_plan.specs.declared.units.Counts.{Counts}
 use Rattle.gob_plan.specs.declared.units.StagedFile.{StagedFile}
 use Rattle.gob_plan.specs.declared.units.UnitResult.TheVariants as unit_result
-use Rattle.gob_recovery.specs.Sequence.{is_file_name, is_name_byte}
+use Rattle.gob_recovery.specs.Sequence.{is_file_name, is_sequence_byte}
 use Rattle.gob_stage.specs.Attempt.{AttemptValue, staged_file, staged_files, staged_name}
 use Rattle.gob_stage.specs.Stages.{HoldsAll}
 use Rattle.gob_task.specs.Finish.{AreStagedFor, HoldCleanly, IsFinished, IsStagedFor}
@@ -38,21 +38,21 @@ use Rattle.gob_task.proofs.Ends.{good_is}
 
 -- ---- names that can be published
 
-spelled_both : (x y : List ℕ) → list_all is_name_byte x ≡ true → list_all is_name_byte y ≡ true
-    → list_all is_name_byte (x ++ y) ≡ true
+spelled_both : (x y : List ℕ) → list_all is_sequence_byte x ≡ true → list_all is_sequence_byte y ≡ true
+    → list_all is_sequence_byte (x ++ y) ≡ true
 spelled_both x y a b =
-    list_all-append is_name_byte x y ∙ and_from (list_all is_name_byte x) (list_all is_name_byte y) a b
+    list_all-append is_sequence_byte x y ∙ and_from (list_all is_sequence_byte x) (list_all is_sequence_byte y) a b
 
-bytes_spelled : (name : List ℕ) → is_file_name name ≡ true → list_all is_name_byte name ≡ true
+bytes_spelled : (name : List ℕ) → is_file_name name ≡ true → list_all is_sequence_byte name ≡ true
 bytes_spelled [] e = refl
 bytes_spelled (b ∷ bs) e = e
 
-named_before : (name bytes : List ℕ) → is_file_name name ≡ true → list_all is_name_byte bytes ≡ true
+named_before : (name bytes : List ℕ) → is_file_name name ≡ true → list_all is_sequence_byte bytes ≡ true
     → is_file_name (name ++ bytes) ≡ true
 named_before [] bytes e spelled = absurd (let no : false ≡ true = e in cc)
 named_before (b ∷ bs) bytes e spelled = spelled_both (b ∷ bs) bytes e spelled
 
-digit_spelled : (b : ℕ) → is_digit b ≡ true → is_name_byte b ≡ true
+digit_spelled : (b : ℕ) → is_digit b ≡ true → is_sequence_byte b ≡ true
 digit_spelled b digit = elim (is_letter b)
     as (λ l. ((l || is_digit b || nat_eq b 46 || nat_eq b 95 || nat_eq b 45) || nat_eq b 47 || nat_eq b 64 || nat_eq
     b 37) ≡ true) [
@@ -60,13 +60,13 @@ digit_spelled b digit = elim (is_letter b)
       | false ↦ rw digit refl
     ]
 
-digits_spelled : (bs : List ℕ) → all_ascii_digits bs ≡ true → list_all is_name_byte bs ≡ true
+digits_spelled : (bs : List ℕ) → all_ascii_digits bs ≡ true → list_all is_sequence_byte bs ≡ true
 digits_spelled [] all = refl
 digits_spelled (b ∷ bs) all =
     let parts = and_parts (is_ascii_digit b) (all_ascii_digits bs) all in
-    and_from (is_name_byte b) (list_all is_name_byte bs) (digit_spelled b parts.0) (digits_spelled bs parts.1)
+    and_from (is_sequence_byte b) (list_all is_sequence_byte bs) (digit_spelled b parts.0) (digits_spelled bs parts.1)
 
-decimal_spelled : (n : ℕ) → n < 2 ^ 32 → list_all is_name_byte (decimal n) ≡ true
+decimal_spelled : (n : ℕ) → n < 2 ^ 32 → list_all is_sequence_byte (decimal n) ≡ true
 decimal_spelled n small = digits_spelled (decimal n) (digits_decimal own n (omega (arith, small)))
 
 folder_spelled : (job : List ℕ) (unit attempt : ℕ) → is_file_name job ≡ true → unit < 2 ^ 32 → attempt < 2 ^ 32
@@ -79,7 +79,7 @@ folder_spelled job unit attempt named small few =
 
 pub file_pathname : (name : List ℕ) → is_file_name name ≡ true → IsPathname name
 file_pathname [] e = e
-file_pathname (b ∷ bs) e = name_bytes is_name_byte refl (b ∷ bs) e
+file_pathname (b ∷ bs) e = name_bytes is_sequence_byte refl (b ∷ bs) e
 
 -- ---- what is begun
 

@@ -11,7 +11,7 @@ use Rattle.gob_bytes.specs.Lines.{lines_from, rest, start_from}
 use Rattle.gob_bytes.specs.Paths.{begins_with, under}
 use Rattle.gob_device.specs.Disk.{clean}
 use Rattle.gob_device.specs.Supply.{Held, bytes_at, bytes_from}
-use Rattle.gob_ledger.specs.Expected.{IsMade, IsPublished, bytes_in}
+use Rattle.gob_ledger.specs.Expected.{IsMade, IsPublished, bytes_of_range}
 use Rattle.gob_ledger.specs.Next.{Judged}
 use Rattle.gob_ledger.specs.Units.{span_of}
 use Rattle.gob_ledger.proofs.Members.{first_in, in_cases, none_in}
@@ -66,7 +66,7 @@ first_bytes_decide plan held u fed listed first within ends =
     cases (stop_of plan (unit_fold plan u.lo fed)) (nat_lt (length fed) (unit_length u)) refl refl ends
   where
     all : List ℕ
-    all = bytes_in held u.part (span_of u)
+    all = bytes_of_range held u.part (span_of u)
 
     more : List ℕ
     more = bytes_from held u.part (u.lo + length fed) (unit_length u - length fed)
@@ -98,7 +98,7 @@ staged_published job plan held u v folder bytes files m is staged clean_files = 
     given : List Delivery
     given = unit_sends plan u bytes
 
-    sends : (t : Target) → sent_to t given ≡ sent_to t (unit_sends plan u (bytes_in held u.part (span_of u)))
+    sends : (t : Target) → sent_to t given ≡ sent_to t (unit_sends plan u (bytes_of_range held u.part (span_of u)))
     sends t = ap (λ bs. sent_to t (unit_sends plan u bs)) is
 
     made : (f : StagedFile) → Contains files f
@@ -117,11 +117,11 @@ staged_published job plan held u v folder bytes files m is staged clean_files = 
         )
 
     by_unit : (name content : List ℕ) (j : Judged) (path : List ℕ) → j ≡ (u, v)
-        → IsMade plan j.0.part (span_of j.0) (bytes_in held j.0.part (span_of j.0)) path content → name ≡ under job path
+        → IsMade plan j.0.part (span_of j.0) (bytes_of_range held j.0.part (span_of j.0)) path content → name ≡ under job path
         → (f : StagedFile) × Contains files f × (f.to ≡ name) × (m f.from ≡ Some (clean content))
     by_unit name content j path same made_of called =
-        let one : IsMade plan u.part (span_of u) (bytes_in held u.part (span_of u)) path content =
-        subst (λ (k : Judged). IsMade plan k.0.part (span_of k.0) (bytes_in held k.0.part (span_of k.0)) path content)
+        let one : IsMade plan u.part (span_of u) (bytes_of_range held u.part (span_of u)) path content =
+        subst (λ (k : Judged). IsMade plan k.0.part (span_of k.0) (bytes_of_range held k.0.part (span_of k.0)) path content)
         same made_of in
         let here : sent_to one.target given ≡ content = sends one.target ∙ one.sends in
         let some : sent_to one.target given ≢ [] = λ none. one.some (sym here ∙ none) in

@@ -17,8 +17,8 @@ use Rattle.gob_plan.specs.declared.units.Unit.{Unit as WorkUnit}
 use Rattle.gob_recovery.specs.Commits.{OnlyBelow}
 use Rattle.gob_stage.specs.Attempt.{AreThere, AttemptValue, new_attempt}
 use Rattle.gob_task.specs.Task.{HasBegun, StandsBehind, TaskValue}
-use Rattle.gob_task.specs.Turn.{AnswerTaken, BytesTaken, Devices, StandsAfter, Tells, TurnDone, TurnRulesValue}
-use Rattle.gob_task.specs.Turn.{asked_for, end_of_bytes, end_of_failure, ended, ends_with, going, pull_of, retry}
+use Rattle.gob_task.specs.Turn.{AnswerTaken, BytesTaken, Devices, StandsAfter, TellsTurn, TurnDone, TurnRulesValue}
+use Rattle.gob_task.specs.Turn.{asked_for, end_of_bytes, end_of_failure, ended, ends_with, going, turn_pull, retry}
 use Rattle.gob_task.specs.declared.task.Turn.{Turn}
 use Rattle.gob_task.specs.declared.task.Turn.TheVariants as turn
 
@@ -27,7 +27,7 @@ pub gone_taken : (rules : TurnRulesValue) (t u : TaskValue) (given : List ℕ) (
     → length given < asked_for rules.piece t
     → IfSome old.supply
     (λ s. given ≡ bytes_from s.held t.unit.part (t.unit.lo + t.machine.seen) (asked_for rules.piece t))
-    → new.supply ≡ option_map (with_pull (pull_of rules.piece t)) old.supply → new.source_faults ≡ old.source_faults
+    → new.supply ≡ option_map (with_pull (turn_pull rules.piece t)) old.supply → new.source_faults ≡ old.source_faults
     → u ≡ t → new.disk ≡ old.disk → AnswerTaken rules t u given (turn.Failed Gone) old new
 gone_taken rules t u given old new less told pulled same unfed unchanged = record {
   few = omega (arith, less);
@@ -47,7 +47,7 @@ pub all_taken : (rules : TurnRulesValue) (t u : TaskValue) (given : List ℕ) (r
     → length given ≡ asked_for rules.piece t
     → IfSome old.supply
     (λ s. given ≡ bytes_from s.held t.unit.part (t.unit.lo + t.machine.seen) (asked_for rules.piece t))
-    → new.supply ≡ option_map (with_pull (pull_of rules.piece t)) old.supply → new.source_faults ≡ old.source_faults
+    → new.supply ≡ option_map (with_pull (turn_pull rules.piece t)) old.supply → new.source_faults ≡ old.source_faults
     → ((fed : List ℕ) → StandsBehind rules.job rules.plan t fed
     → BytesTaken rules t u fed given r old.disk new.disk)
     → AnswerTaken rules t u given r old new
@@ -56,7 +56,7 @@ all_taken rules t u given r old new all told pulled same taken = record {
   told = told;
   pulled = pulled;
   no_fault = same;
-  ends = λ fed stands. subst (Tells r) (sym (ap
+  ends = λ fed stands. subst (TellsTurn r) (sym (ap
       (λ b. cond b (ended (failed Gone)) (end_of_bytes rules.plan t.unit (fed ++ given)))
       (le-ltb (length given) (asked_for rules.piece t) (omega (arith, all))))) (taken fed stands).ends;
   goes_on = λ fed stands. (taken fed stands).goes_on;
@@ -106,7 +106,7 @@ told_front (Some s) n asked at front part rules t a told =
     ∙ ap (bytes_from s.held t.unit.part (t.unit.lo + t.machine.seen)) a.number))
 
 same_pull : (rules : TurnRulesValue) (t : TaskValue) (asked at : ℕ) (part : List ℕ) → Asked rules t asked at part
-    → ◌≡◌ {A = Pull} (record { part = part; at = at; len = asked }) (pull_of rules.piece t)
+    → ◌≡◌ {A = Pull} (record { part = part; at = at; len = asked }) (turn_pull rules.piece t)
 same_pull rules t asked at part a = λ i. record { part = a.unit i; at = a.place i; len = a.number i }
 
 -- fewer bytes than were asked for
@@ -192,7 +192,7 @@ not_whole retries failures A counts warnings is = cases (nat_lt failures retries
         let no : false ≡ true = yes in cc)
 
 pub stands_failed : (rules : TurnRulesValue) (t u : TaskValue) (r : Turn)
-    → Tells r (end_of_failure rules.max_retries t.failures)
+    → TellsTurn r (end_of_failure rules.max_retries t.failures)
     → (r ≡ turn.Retry → HasBegun rules.job rules.plan t.unit t.index (t.failures + 1) u) → StandsAfter rules u r
 stands_failed rules t u turn.Going ends anew = not_going rules.max_retries t.failures _ ends
 stands_failed rules t u turn.Retry ends anew = ([], (anew refl).stands)

@@ -14,7 +14,7 @@ use Rattle.gob_meaning.specs.Items.{out, err}
 use Rattle.gob_meaning.specs.Laws.{IsPlaced, is_folder}
 use Rattle.gob_plan.specs.declared.plan.Plan.{Plan}
 use Rattle.gob_plan.specs.declared.units.Unit.{Unit as WorkUnit}
-use Rattle.gob_pipeline.specs.Made.{AreSlots, AreSlotsFrom, Buffers, IsSlot, filled, filled_place, filled_slot}
+use Rattle.gob_pipeline.specs.Made.{AreSlots, AreSlotsFrom, Buffers, IsSlot, filled_targets, filled_place, filled_slot}
 use Rattle.gob_pipeline.specs.Made.{is_place, is_place_byte, is_placed, target_in}
 use Rattle.gob_device.specs.Disk.{Both, Disk}
 use Rattle.gob_recovery.specs.Sequence.{is_file_name}
@@ -70,8 +70,8 @@ filled_from slot (table ∷ tables) few slots =
     slots.1))
 
 -- what buffers hold has targets that a name can have
-pub all_filled : (buffers : Buffers) → length buffers ≤ 2 ^ 32 → AreSlots buffers → AreFilled (filled buffers)
-unfolding filled
+pub all_filled : (buffers : Buffers) → length buffers ≤ 2 ^ 32 → AreSlots buffers → AreFilled (filled_targets buffers)
+unfolding filled_targets
 all_filled buffers few slots = filled_from 0 buffers (omega (arith, few)) slots
 
 -- ---- one more place, and one more slot
@@ -128,8 +128,8 @@ all_taken start [] (suc i) past = refl
 all_taken start (x ∷ xs) zero past = absurd (omega (arith, past))
 all_taken start (x ∷ xs) (suc i) past = ap (λ es. (start, x) ∷ es) (all_taken (start + 1) xs i (omega (arith, past)))
 
-pub all_slots : (buffers : Buffers) (i : ℕ) → length buffers ≤ i → filled_front i buffers ≡ filled buffers
-unfolding filled
+pub all_slots : (buffers : Buffers) (i : ℕ) → length buffers ≤ i → filled_front i buffers ≡ filled_targets buffers
+unfolding filled_targets
 all_slots buffers i past = ap (flat_map filled_slot) (all_taken 0 buffers i past)
 
 -- ---- slots, one by one

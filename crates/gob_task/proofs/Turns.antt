@@ -14,13 +14,13 @@ use Rattle.gob_meaning.proofs.Joins.{parts_join}
 use Rattle.gob_plan.specs.declared.plan.Plan.{Plan}
 use Rattle.gob_recovery.specs.Sequence.{is_file_name}
 use Rattle.gob_pipeline.specs.Machine.{Fed, MachineValue, Sends, WasFed, sent_before_stop}
-use Rattle.gob_pipeline.specs.Made.{AreEmpty, AreSlots, Buffers, filled}
+use Rattle.gob_pipeline.specs.Made.{AreEmpty, AreSlots, Buffers, filled_targets}
 use Rattle.gob_pipeline.proofs.Filled.{pieces_fill}
 use Rattle.gob_stage.specs.Attempt.{AttemptValue, HoldsStaged}
 use Rattle.gob_task.specs.Staging.{Appended, Appends, HoldsAppends, appends_of, with_appends}
 use Rattle.gob_task.specs.Task.{AreSent, AreSpelled, HoldsSent, HoldsToStop, Names, StandsBehind, TaskValue}
 use Rattle.gob_task.specs.Task.{WasFedIn, unit_length, unit_sends}
-use Rattle.gob_task.specs.Turn.{BytesTaken, FilesKept, GoesOn, IsFed, Tells, TurnRulesValue, end_of_bytes}
+use Rattle.gob_task.specs.Turn.{BytesTaken, FilesKept, TaskGoesOn, IsFed, TellsTurn, TurnRulesValue, end_of_bytes}
 use Rattle.gob_task.specs.declared.task.Turn.{Turn}
 use Rattle.gob_task.specs.declared.task.Turn.TheVariants as turn
 use Rattle.gob_task.proofs.Appended.{after_folder, after_job, names_after, spelled_after}
@@ -51,7 +51,7 @@ pub record PieceTaken (rules : TurnRulesValue) (t : TaskValue) (m : MachineValue
   pub branches : length m.counts.branches ≡ length t.machine.counts.branches
   pub slots : AreSlots after
   pub short : length after ≤ 2 ^ 32
-  pub appended : Appended (appends_of rules.plan t.unit (filled after)) t.staged a old new
+  pub appended : Appended (appends_of rules.plan t.unit (filled_targets after)) t.staged a old new
   pub within : t.machine.seen + length piece ≤ unit_length t.unit
 
 -- what the pieces have sent before a stop is in the contents, where it was before the last piece
@@ -59,11 +59,11 @@ piece_sent : (rules : TurnRulesValue) (t : TaskValue) (m : MachineValue) (a : At
     (fed piece : List ℕ) (after : Buffers) (old new : Option Disk) → PieceTaken rules t m a fed piece after old new
     → (contents : Table (List ℕ)) → AreSent rules.plan t.unit (unit_sends rules.plan t.unit fed) contents
     → AreSent rules.plan t.unit (sent_before_stop rules.plan t.unit.lo (fed ++ piece))
-    (with_appends (appends_of rules.plan t.unit (filled after)) contents)
+    (with_appends (appends_of rules.plan t.unit (filled_targets after)) contents)
 piece_sent rules t m a fed piece after old new p contents sent =
-    sent_alike plan t.unit (unit_sends plan t.unit fed ++ filled after) (sent_before_stop plan t.unit.lo (fed ++ piece))
-    (with_appends (appends_of plan t.unit (filled after)) contents) alike
-    (sent_all plan t.unit p.range (filled after) (unit_sends plan t.unit fed) contents (all_filled after p.short
+    sent_alike plan t.unit (unit_sends plan t.unit fed ++ filled_targets after) (sent_before_stop plan t.unit.lo (fed ++ piece))
+    (with_appends (appends_of plan t.unit (filled_targets after)) contents) alike
+    (sent_all plan t.unit p.range (filled_targets after) (unit_sends plan t.unit fed) contents (all_filled after p.short
     p.slots)
     (placed_of_unit plan t.unit fed p.few) sent)
   where
@@ -85,10 +85,10 @@ piece_sent rules t m a fed piece after old new p contents sent =
         subst (λ l. sent_before_stop plan l (fed ++ piece) ≡ sent_before_stop plan l fed ++ sends.given) w.lo sends.all
         ∙ ap (λ ds. ds ++ sends.given) (sent_whole plan t.unit.lo fed none_before)
 
-    alike : (s : Target) → sent_to s (unit_sends plan t.unit fed ++ filled after)
+    alike : (s : Target) → sent_to s (unit_sends plan t.unit fed ++ filled_targets after)
         ≡ sent_to s (sent_before_stop plan t.unit.lo (fed ++ piece))
     alike s =
-        sent-append s (unit_sends plan t.unit fed) (filled after)
+        sent-append s (unit_sends plan t.unit fed) (filled_targets after)
         ∙ (ap (λ bs. sent_to s (unit_sends plan t.unit fed) ++ bs)
         (sym (pieces_fill p.before after sends.given p.empty sends.added p.slots s))
         ∙ (sym (sent-append s (unit_sends plan t.unit fed) sends.given) ∙ ap (sent_to s) (sym joined)))
@@ -106,7 +106,7 @@ files_kept rules t m names a fed piece after old new p = record {
 }
   where
     es : Appends
-    es = appends_of rules.plan t.unit (filled after)
+    es = appends_of rules.plan t.unit (filled_targets after)
 
     held : (d e : Disk) → HoldsAppends es t.staged d e → HoldsSent rules.plan t fed d.files
         → HoldsToStop rules.plan (with_parts t m names a) (fed ++ piece) e.files
@@ -164,7 +164,7 @@ onward rules t m names a fed piece after old new p none = record {
     w = p.stands.was
 
     es : Appends
-    es = appends_of plan t.unit (filled after)
+    es = appends_of plan t.unit (filled_targets after)
 
     known : WasFed plan m (fed ++ piece)
     known = (p.took.goes fed w.known).0
@@ -191,8 +191,8 @@ onward rules t m names a fed piece after old new p none = record {
 goes_on : (rules : TurnRulesValue) (t : TaskValue) (m : MachineValue) (names : Names) (a : AttemptValue)
     (fed piece : List ℕ) (after : Buffers) (old new : Option Disk) (r : Turn)
     → PieceTaken rules t m a fed piece after old new → AreSpelled rules.plan t.unit names
-    → Tells r (end_of_bytes rules.plan t.unit (fed ++ piece))
-    → GoesOn rules t (with_parts t m names a) fed piece r old new
+    → TellsTurn r (end_of_bytes rules.plan t.unit (fed ++ piece))
+    → TaskGoesOn rules t (with_parts t m names a) fed piece r old new
 goes_on rules t m names a fed piece after old new turn.Going p spelled is =
     let end = going_told rules.plan t.unit (fed ++ piece) is in
     let o = onward rules t m names a fed piece after old new p end.goes_on in
@@ -210,9 +210,9 @@ pub piece_done : (rules : TurnRulesValue) (t : TaskValue) (m : MachineValue) (na
     → length rules.plan.branches ≤ 8 → AreBytes t.unit.part → StandsBehind rules.job rules.plan t fed
     → AreEmpty before → Fed rules.plan t.machine m piece before after
     → length m.counts.branches ≡ length t.machine.counts.branches → length after ≤ 2 ^ 32 → AreSlots after
-    → AreSpelled plan t.unit names → Appended (appends_of plan t.unit (filled after)) t.staged a old new
+    → AreSpelled plan t.unit names → Appended (appends_of plan t.unit (filled_targets after)) t.staged a old new
     → t.machine.seen + length piece ≤ unit_length t.unit
-    → ((bytes : List ℕ) → WasFed plan m bytes → Tells r (end_of_bytes plan t.unit bytes))
+    → ((bytes : List ℕ) → WasFed plan m bytes → TellsTurn r (end_of_bytes plan t.unit bytes))
     → BytesTaken rules t (with_parts t m names a) fed piece r old new
 piece_done rules t m names a fed piece before after old new r plan same few bytes stands empty took branches short slots
     spelled appended
@@ -223,8 +223,8 @@ piece_done rules t m names a fed piece before after old new r plan same few byte
       files = files_kept rules t m names a fed piece after old new taken;
     }
   where
-    ends : Tells r (end_of_bytes rules.plan t.unit (fed ++ piece))
-    ends = subst (λ p. Tells r (end_of_bytes p t.unit (fed ++ piece))) same
+    ends : TellsTurn r (end_of_bytes rules.plan t.unit (fed ++ piece))
+    ends = subst (λ p. TellsTurn r (end_of_bytes p t.unit (fed ++ piece))) same
         (judged (fed ++ piece) (subst (λ p. WasFed p m (fed ++ piece)) (sym same) (took.goes fed stands.was.known).0))
 
     taken : PieceTaken rules t m a fed piece after old new
@@ -238,7 +238,7 @@ piece_done rules t m names a fed piece before after old new r plan same few byte
       branches = branches;
       slots = slots;
       short = short;
-      appended = subst (λ p. Appended (appends_of p t.unit (filled after)) t.staged a old new) same appended;
+      appended = subst (λ p. Appended (appends_of p t.unit (filled_targets after)) t.staged a old new) same appended;
       within = within;
     }
 

@@ -4,7 +4,7 @@ use Rattle.std.specs.declared.option.Option.TheVariants.{Some}
 use Rattle.std.specs.List.{Contains}
 use Rattle.gob_device.specs.Disk.{Files, clean}
 use Rattle.gob_device.specs.Supply.{Held, bytes_from}
-use Rattle.gob_ledger.specs.Expected.{IsPublished, bytes_in}
+use Rattle.gob_ledger.specs.Expected.{IsPublished, bytes_of_range}
 use Rattle.gob_ledger.specs.Units.{span_of}
 use Rattle.gob_meaning.specs.Results.{Verdict, verdict_of}
 use Rattle.gob_plan.specs.declared.plan.Plan.{Plan}
@@ -29,7 +29,7 @@ PulledAreFirst = (held : Held) (u : WorkUnit) (fed given : List ℕ) → AreFirs
 abbrev pub FirstBytesDecide : Type 0
 FirstBytesDecide = (plan : Plan) (held : Held) (u : WorkUnit) (fed : List ℕ) → u.listed ≡ true → AreFirst held u fed
     → length fed ≤ unit_length u → ends_with plan u fed ≡ true
-    → verdict_of plan u fed ≡ verdict_of plan u (bytes_in held u.part (span_of u))
+    → verdict_of plan u fed ≡ verdict_of plan u (bytes_of_range held u.part (span_of u))
 
 -- the files of a unit are exactly what it has to publish, and each is clean
 pub record ArePublished (job : List ℕ) (plan : Plan) (held : Held) (u : WorkUnit) (v : Verdict)
@@ -42,7 +42,7 @@ pub record ArePublished (job : List ℕ) (plan : Plan) (held : Held) (u : WorkUn
 -- the files of a good unit, of which all bytes were fed, are so
 abbrev pub StagedArePublished : Type 0
 StagedArePublished = (job : List ℕ) (plan : Plan) (held : Held) (u : WorkUnit) (v : Verdict) (folder bytes : List ℕ)
-    (files : List StagedFile) (m : Files) → bytes ≡ bytes_in held u.part (span_of u)
+    (files : List StagedFile) (m : Files) → bytes ≡ bytes_of_range held u.part (span_of u)
     → AreStagedFor job plan u folder (unit_sends plan u bytes) files
     → HoldCleanly plan u job (unit_sends plan u bytes) files m → ArePublished job plan held u v files m
 

@@ -13,7 +13,7 @@ use Rattle.gob_plan.specs.declared.plan.Plan.{Plan}
 use Rattle.gob_plan.specs.declared.units.Cause.TheVariants.{Fault, Gone}
 use Rattle.gob_plan.specs.declared.units.Counts.{Counts}
 use Rattle.gob_plan.specs.declared.units.Unit.{Unit as WorkUnit}
-use Rattle.gob_pipeline.specs.Made.{AreSlots, Buffers, filled}
+use Rattle.gob_pipeline.specs.Made.{AreSlots, Buffers, filled_targets}
 use Rattle.gob_recovery.specs.Commits.{OnlyBelow}
 use Rattle.gob_stage.specs.declared.fault.StageFault.{StageFault}
 use Rattle.gob_stage.specs.declared.fault.StageFault.TheVariants as stage_fault
@@ -31,16 +31,16 @@ pub data TurnEnd : Type 0 where
   ended : Verdict → TurnEnd
 
 -- what the turn's answer says of its end; a good unit's counts and files are told by a call of their own
-abbrev pub Tells : Turn → TurnEnd → Type 0
-Tells turn.Going end = end ≡ going
-Tells turn.Retry end = end ≡ retry
-Tells (turn.Failed cause) end = end ≡ ended (failed cause)
-Tells turn.Whole end = (counts : Counts) × (warnings : List ℕ) × (end ≡ ended (good counts warnings))
+abbrev pub TellsTurn : Turn → TurnEnd → Type 0
+TellsTurn turn.Going end = end ≡ going
+TellsTurn turn.Retry end = end ≡ retry
+TellsTurn (turn.Failed cause) end = end ≡ ended (failed cause)
+TellsTurn turn.Whole end = (counts : Counts) × (warnings : List ℕ) × (end ≡ ended (good counts warnings))
 
 -- a volume that failed, and want of memory
-abbrev pub fault_of : StageFault → TurnFault
-fault_of stage_fault.Failed = turn_fault.Failed
-fault_of stage_fault.Memory = turn_fault.Memory
+abbrev pub turn_fault_of : StageFault → TurnFault
+turn_fault_of stage_fault.Failed = turn_fault.Failed
+turn_fault_of stage_fault.Memory = turn_fault.Memory
 
 -- ---- how it ends, by what the pull gave
 
@@ -49,8 +49,8 @@ abbrev pub asked_for : ℕ → TaskValue → ℕ
 asked_for piece t = min piece (unit_length t.unit - t.machine.seen)
 
 -- the pull of the turn
-abbrev pub pull_of : ℕ → TaskValue → Pull
-pull_of piece t = record { part = t.unit.part; at = t.unit.lo + t.machine.seen; len = asked_for piece t }
+abbrev pub turn_pull : ℕ → TaskValue → Pull
+turn_pull piece t = record { part = t.unit.part; at = t.unit.lo + t.machine.seen; len = asked_for piece t }
 
 -- the unit has ended with these bytes: a line stops it, or all of it was pulled
 abbrev pub ends_with : Plan → WorkUnit → List ℕ → Bool
@@ -97,19 +97,19 @@ pub record IsFed (rules : TurnRulesValue) (t u : TaskValue) (fed given : List �
   pub holds : Both (λ d e. HoldsSent rules.plan t fed d.files → HoldsSent rules.plan u (fed ++ given) e.files) old new
 
 -- where the unit hasn't failed, the task stands behind all these bytes, or the unit has no others
-abbrev pub GoesOn : TurnRulesValue → TaskValue → TaskValue → List ℕ → List ℕ → Turn → Option Disk → Option Disk → Type 0
-GoesOn rules t u fed given turn.Going old new =
+abbrev pub TaskGoesOn : TurnRulesValue → TaskValue → TaskValue → List ℕ → List ℕ → Turn → Option Disk → Option Disk → Type 0
+TaskGoesOn rules t u fed given turn.Going old new =
     StandsBehind rules.job rules.plan u (fed ++ given) × IsFed rules t u fed given old new
-GoesOn rules t u fed given turn.Retry old new = Unit {0}
-GoesOn rules t u fed given (turn.Failed cause) old new = Unit {0}
-GoesOn rules t u fed given turn.Whole old new =
+TaskGoesOn rules t u fed given turn.Retry old new = Unit {0}
+TaskGoesOn rules t u fed given (turn.Failed cause) old new = Unit {0}
+TaskGoesOn rules t u fed given turn.Whole old new =
     IsWhole rules.job rules.plan u (fed ++ given) × IsFed rules t u fed given old new
 
 -- the volume was called for one append to each target that has bytes in some buffers, and for nothing else
 pub record OneAppendEach (plan : Plan) (t : TaskValue) (old new : Option Disk) : Type 0 where
   pub buffers : Buffers
   pub slots : AreSlots buffers
-  pub calls : new ≡ option_map (after_stagings (appends_of plan t.unit (filled buffers)) t.staged) old
+  pub calls : new ≡ option_map (after_stagings (appends_of plan t.unit (filled_targets buffers)) t.staged) old
 
 -- behind these bytes it was fed these too, whether or not a line stops it: where the attempt's files held what the
 -- first have made, they hold what both have made up to a stop
@@ -123,8 +123,8 @@ pub record FilesKept (rules : TurnRulesValue) (t u : TaskValue) (fed given : Lis
 -- these bytes were taken: they tell how the turn ends, and where the task stands
 pub record BytesTaken (rules : TurnRulesValue) (t u : TaskValue) (fed given : List ℕ) (r : Turn)
     (old new : Option Disk) : Type 0 where
-  pub ends : Tells r (end_of_bytes rules.plan t.unit (fed ++ given))
-  pub goes_on : GoesOn rules t u fed given r old new
+  pub ends : TellsTurn r (end_of_bytes rules.plan t.unit (fed ++ given))
+  pub goes_on : TaskGoesOn rules t u fed given r old new
   pub files : FilesKept rules t u fed given old new
 
 -- the pull was answered with these bytes, behind those that were fed; where some are gone, none of them is fed
@@ -133,12 +133,12 @@ pub record AnswerTaken (rules : TurnRulesValue) (t u : TaskValue) (given : List 
   pub few : length given ≤ asked_for rules.piece t
   pub told : IfSome old.supply
       (λ s. given ≡ bytes_from s.held t.unit.part (t.unit.lo + t.machine.seen) (asked_for rules.piece t))
-  pub pulled : new.supply ≡ option_map (with_pull (pull_of rules.piece t)) old.supply
+  pub pulled : new.supply ≡ option_map (with_pull (turn_pull rules.piece t)) old.supply
   pub no_fault : new.source_faults ≡ old.source_faults
   pub ends : (fed : List ℕ) → StandsBehind rules.job rules.plan t fed
-      → Tells r (end_of_answer rules.plan t.unit fed (asked_for rules.piece t) given)
+      → TellsTurn r (end_of_answer rules.plan t.unit fed (asked_for rules.piece t) given)
   pub goes_on : (fed : List ℕ) → StandsBehind rules.job rules.plan t fed
-      → GoesOn rules t u fed given r old.disk new.disk
+      → TaskGoesOn rules t u fed given r old.disk new.disk
   pub files : asked_for rules.piece t ≤ length given → (fed : List ℕ) → StandsBehind rules.job rules.plan t fed
       → FilesKept rules t u fed given old.disk new.disk
   pub gone : length given < asked_for rules.piece t → (u ≡ t) × (new.disk ≡ old.disk)
@@ -148,7 +148,7 @@ pub record FailureTaken (rules : TurnRulesValue) (t u : TaskValue) (r : Turn) (o
   pub rose : Rose old.source_faults new.source_faults
   pub unpulled : new.supply ≡ old.supply
   pub unchanged : new.disk ≡ old.disk
-  pub ends : Tells r (end_of_failure rules.max_retries t.failures)
+  pub ends : TellsTurn r (end_of_failure rules.max_retries t.failures)
   pub anew : r ≡ turn.Retry → HasBegun rules.job rules.plan t.unit t.index (t.failures + 1) u
 
 -- what the next call may go on from
@@ -167,9 +167,9 @@ TurnTaken rules t u r old new =
 abbrev pub TurnStopped : TurnRulesValue → TaskValue → TurnFault → Devices → Devices → Type 0
 TurnStopped rules t turn_fault.Failed old new =
     Rose old.volume_faults new.volume_faults × (new.source_faults ≡ old.source_faults)
-    × (new.supply ≡ option_map (with_pull (pull_of rules.piece t)) old.supply)
+    × (new.supply ≡ option_map (with_pull (turn_pull rules.piece t)) old.supply)
 TurnStopped rules t turn_fault.Memory old new =
-    (new.supply ≡ old.supply) ⊎ (new.supply ≡ option_map (with_pull (pull_of rules.piece t)) old.supply)
+    (new.supply ≡ old.supply) ⊎ (new.supply ≡ option_map (with_pull (turn_pull rules.piece t)) old.supply)
 
 abbrev pub TurnIs : TurnRulesValue → TaskValue → TaskValue → Result Turn TurnFault → Devices → Devices → Type 0
 TurnIs rules t u (Ok r) old new = TurnTaken rules t u r old new

@@ -24,9 +24,9 @@ impl From<NoMemory> for TurnFault {
 }
 
 impl From<StageFault> for TurnFault {
-    ghost use Rattle.gob_task.specs.Turn.{fault_of};
+    ghost use Rattle.gob_task.specs.Turn.{turn_fault_of};
 
-    ghost from_gives = { λ e f. f ≡ fault_of e };
+    ghost from_gives = { λ e f. f ≡ turn_fault_of e };
 
     fn from(fault: StageFault) -> Self {
         match fault {

@@ -4,7 +4,7 @@ ghost use Rattle.std.specs.Prelude.{List as Items};
 ghost use Rattle.gob_meaning.specs.Results.{warnings_of};
 ghost use Rattle.gob_pipeline.specs.Machine.{WasFed};
 ghost use Rattle.gob_task.specs.Judging.{warning_places};
-ghost use Rattle.gob_task.specs.Turn.{Tells, end_of_bytes};
+ghost use Rattle.gob_task.specs.Turn.{TellsTurn, end_of_bytes};
 
 use crate::Turn;
 use gob_judge::{TaskVerdict, judge_task, warns};
@@ -18,7 +18,7 @@ pub fn judge(plan: &Plan, unit: &Unit, machine: &Machine) -> Turn
     requires listed { unit.now.listed ≡ true }
     requires bytes { unit.now.lo < unit.now.hi }
     requires lo { machine.now.lo ≡ unit.now.lo }
-    ensures { (fed : Items ℕ) → WasFed plan.now machine.now fed → Tells result (end_of_bytes plan.now unit.now fed) }
+    ensures { (fed : Items ℕ) → WasFed plan.now machine.now fed → TellsTurn result (end_of_bytes plan.now unit.now fed) }
 {
     if let Some(cause) = machine.stopped() {
         return Turn::Failed(cause);

@@ -3,7 +3,7 @@ ghost use Rattle.std.specs.Prelude.{◌≡◌, ◌<◌, ◌^◌, true, length, I
 ghost use Rattle.std.specs.List.{flat_map};
 ghost use Rattle.gob_device.specs.Causes.{HasCause};
 ghost use Rattle.gob_device.specs.Disk.{Along};
-ghost use Rattle.gob_pipeline.specs.Made.{AreSlots, IsSlot, filled, filled_place, is_place};
+ghost use Rattle.gob_pipeline.specs.Made.{AreSlots, IsSlot, filled_targets, filled_place, is_place};
 ghost use Rattle.gob_recovery.specs.Commits.{OnlyBelow};
 ghost use Rattle.gob_stage.specs.Attempt.{AreThere};
 ghost use Rattle.gob_task.specs.Task.{AreSpelled};
@@ -30,7 +30,7 @@ pub fn stage<V: Volume>(
     requires spelled { AreSpelled plan.now unit.now names.old }
     requires there { IfSome (V.disk volume.old) (λ d. AreThere staged.old d.files) }
     ensures spelled { AreSpelled plan.now unit.now names.new }
-    ensures appended { OnOk result (Appended (appends_of plan.now unit.now (filled buffers.now)) staged.old staged.new
+    ensures appended { OnOk result (Appended (appends_of plan.now unit.now (filled_targets buffers.now)) staged.old staged.new
         (V.disk volume.old) (V.disk volume.new)) }
     ensures slots { OnOk result (AreSlots buffers.now) }
     ensures below { Along (OnlyBelow staged.old.folder) (V.disk volume.old) (V.disk volume.new) }

@@ -10,7 +10,7 @@ ghost use Rattle.gob_device.specs.Disk.{Along, Files};
 ghost use Rattle.gob_recovery.specs.Commits.{OnlyBelow};
 ghost use Rattle.gob_task.specs.Finish.{IsFinished};
 ghost use Rattle.gob_task.specs.Task.{HasBegun, IsPullable, IsWhole, StandsBehind, unit_length};
-ghost use Rattle.gob_task.specs.Turn.{BytesTaken, StandsAfter, Tells, TurnDone, end_of_failure};
+ghost use Rattle.gob_task.specs.Turn.{BytesTaken, StandsAfter, TellsTurn, TurnDone, end_of_failure};
 ghost use Rattle.gob_task.specs.Bench.{FitsBench};
 
 use crate::TurnFault;
@@ -269,7 +269,7 @@ impl Task {
     // A pull failed: the unit begins anew with the next attempt, or has failed too often.
     fn begin_anew(&mut self, alloc: Global, rules: &TaskRules) -> Result<Turn, NoMemory>
         requires unit { IsPullable self.old.unit }
-        ensures ends { IfOk result (λ r. Tells r (end_of_failure rules.now.max_retries self.old.failures)) }
+        ensures ends { IfOk result (λ r. TellsTurn r (end_of_failure rules.now.max_retries self.old.failures)) }
         ensures anew { IfOk result (λ r. r ≡ Turn.Retry → HasBegun rules.now.job rules.now.plan self.old.unit
             self.old.index (self.old.failures + 1) self.new) }
         ensures there { IfOk result (λ r. (m : Files) → AreThere self.old.staged m → AreThere self.new.staged m) }

@@ -18,7 +18,7 @@ use Rattle.std.proofs.lemmas.Fmt.{digits_decimal, decimal_injective}
 use Rattle.std.proofs.lemmas.Str.Parse.{IsNumeralModel, numerals_by_value, tells_all_ascii_digits}
 use Rattle.std.specs.Fmt.{digit_glyph}
 use Rattle.percent_encoding.specs.Percent.{percent_encode_byte}
-use Rattle.gob_bytes.specs.Escapes.{AreBytes, escaped, is_plain}
+use Rattle.gob_bytes.specs.Escapes.{AreBytes, escape_of, is_plain}
 use Rattle.gob_bytes.specs.Numbers.{number_read}
 use Rattle.gob_bytes.proofs.Forms.{one_form, escapes_apart, bytes_from_utf8, own}
 use Rattle.gob_text.specs.Words.{is_break, EndsWord, HasNoBreak, IsWord, IsLine, IsName, GoesOnAtAll, Takes, TakesText}
@@ -131,14 +131,14 @@ no_break-byte : (b : ℕ) → HasNoBreak (percent_encode_byte b)
 unfolding percent_encode_byte
 no_break-byte b = and_from _ _ (glyph_not_break (b / 16 % 16)) (and_from _ _ (glyph_not_break (b % 16)) refl)
 
-no_break-escaped : (name : List ℕ) → HasNoBreak (escaped name)
-unfolding escaped
-no_break-escaped [] = refl
-no_break-escaped (b ∷ name) =
-    list_all-append (λ c. not (is_break c)) (cond (is_plain b) (b ∷ []) (percent_encode_byte b)) (escaped name)
+no_break-escape_of : (name : List ℕ) → HasNoBreak (escape_of name)
+unfolding escape_of
+no_break-escape_of [] = refl
+no_break-escape_of (b ∷ name) =
+    list_all-append (λ c. not (is_break c)) (cond (is_plain b) (b ∷ []) (percent_encode_byte b)) (escape_of name)
     ∙ and_from _ _
     (cond_both (is_plain b) (b ∷ []) (percent_encode_byte b) HasNoBreak
-    (λ plain. and_from _ _ (plain_not_break b plain) refl) (λ _. no_break-byte b)) (no_break-escaped name)
+    (λ plain. and_from _ _ (plain_not_break b plain) refl) (λ _. no_break-byte b)) (no_break-escape_of name)
 
 -- ---- what is taken
 
@@ -193,16 +193,16 @@ takes_no_number text word rest whole h ends reads =
     (λ m fits same. let some = (one_form word m).1 (sym same, fits) in cc)
 
 pub takes_name : (text word rest name : List ℕ) → text ≡ word ++ rest → HasNoBreak word → EndsWord rest → IsName name →
-    escaped name ≡ word → Takes escaped IsName EndsWord text rest (Some name)
+    escape_of name ≡ word → Takes escape_of IsName EndsWord text rest (Some name)
 takes_name text word rest name whole h ends fits spells =
-    takes_some escaped IsName text word rest name (λ y _. no_break-escaped y)
+    takes_some escape_of IsName text word rest name (λ y _. no_break-escape_of y)
     (λ y fits' same. escapes_apart name y (bytes_from_utf8 name fits.1) (bytes_from_utf8 y fits'.1)
     (spells ∙ sym same)) whole h ends fits spells
 
 pub takes_no_name : (text word rest : List ℕ) → text ≡ word ++ rest → HasNoBreak word → EndsWord rest →
-    ((name : List ℕ) → IsName name → escaped name ≢ word) → Takes escaped IsName EndsWord text text None
+    ((name : List ℕ) → IsName name → escape_of name ≢ word) → Takes escape_of IsName EndsWord text text None
 takes_no_name text word rest whole h ends never =
-    takes_none escaped IsName text word rest (λ y _. no_break-escaped y) whole h ends never
+    takes_none escape_of IsName text word rest (λ y _. no_break-escape_of y) whole h ends never
 
 pub takes_line : (text line rest : List ℕ) → IsLine line → text ≡ (line ++ 10 ∷ []) ++ rest →
     Takes (λ l. l ++ 10 ∷ []) IsLine GoesOnAtAll text rest (Some line)
@@ -235,25 +235,25 @@ takes_no_text text old never = record {
 
 -- ---- names
 
-escaped_some : (name word : List ℕ) → escaped name ≡ word → 0 < length word → 0 < length name
-unfolding escaped
+escaped_some : (name word : List ℕ) → escape_of name ≡ word → 0 < length word → 0 < length name
+unfolding escape_of
 escaped_some [] word same some = absurd (omega (arith, ap length same))
 escaped_some (b ∷ name) word same some = omega arith
 
-pub name_some : (word : List ℕ) → length word ≡ 0 → (name : List ℕ) → IsName name → escaped name ≢ word
-unfolding escaped percent_encode_byte
+pub name_some : (word : List ℕ) → length word ≡ 0 → (name : List ℕ) → IsName name → escape_of name ≢ word
+unfolding escape_of percent_encode_byte
 name_some word empty [] fits same = absurd (omega (arith, fits.0))
 name_some word empty (b ∷ name) fits same =
-    let some = cond_both (is_plain b) (b ∷ []) (percent_encode_byte b) (λ x. 0 < length (x ++ escaped name))
+    let some = cond_both (is_plain b) (b ∷ []) (percent_encode_byte b) (λ x. 0 < length (x ++ escape_of name))
     (λ _. omega arith) (λ _. omega arith) in
     absurd (omega (arith, ap length same, some))
 
 pub name_from : {E : Type 0} (word : List ℕ) (v : Vec ℕ Global) (r : Result (String Global) E) → 0 < length word →
-    AreBytes v.items → escaped v.items ≡ word → IfOk r (λ t. string_vec t ≡ v) → (IsUtf8 v.items → is_ok r ≡ true) →
-    MatchOption (result_ok r) ((name : List ℕ) → IsName name → escaped name ≢ word)
-    (λ t. IsName (string_bytes t) × (escaped (string_bytes t) ≡ word))
+    AreBytes v.items → escape_of v.items ≡ word → IfOk r (λ t. string_vec t ≡ v) → (IsUtf8 v.items → is_ok r ≡ true) →
+    MatchOption (result_ok r) ((name : List ℕ) → IsName name → escape_of name ≢ word)
+    (λ t. IsName (string_bytes t) × (escape_of (string_bytes t) ≡ word))
 name_from word v (Ok t) some small spells same text =
-    let spells' = ap escaped (ap (λ (w : Vec ℕ Global). w.items) same) ∙ spells in
+    let spells' = ap escape_of (ap (λ (w : Vec ℕ Global). w.items) same) ∙ spells in
     ((escaped_some (string_bytes t) word spells' some, IsUtf8-string_bytes t), spells')
 name_from word v (Err e) some small spells same text =
     λ name fits same'. true≢false
@@ -261,6 +261,6 @@ name_from word v (Err e) some small spells same text =
     (subst IsUtf8
     (escapes_apart name v.items (bytes_from_utf8 name fits.1) small (same' ∙ sym spells)) fits.1)))
 
-pub no_name : (word : List ℕ) → ((bytes : List ℕ) → AreBytes bytes → escaped bytes ≢ word) → (name : List ℕ) →
-    IsName name → escaped name ≢ word
+pub no_name : (word : List ℕ) → ((bytes : List ℕ) → AreBytes bytes → escape_of bytes ≢ word) → (name : List ℕ) →
+    IsName name → escape_of name ≢ word
 no_name word never name fits = never name (bytes_from_utf8 name fits.1)

@@ -4,7 +4,7 @@ ghost use Rattle.std.specs.Prelude.{OnOk, OnErr, MatchOption, IfOk, IsTrue};
 ghost use Rattle.std.specs.List.{list_all};
 ghost use Rattle.gob_bytes.specs.Additions.{AddsFront};
 ghost use Rattle.gob_bytes.specs.Names as names;
-ghost use Rattle.gob_bytes.specs.Escapes.{AreBytes, escaped, is_plain};
+ghost use Rattle.gob_bytes.specs.Escapes.{AreBytes, escape_of, is_plain};
 
 use crate::front::after_front;
 use percent_encoding::{AsciiSet, NON_ALPHANUMERIC, ascii_set, percent_decode, percent_encode};
@@ -16,8 +16,8 @@ const ESCAPED: AsciiSet = ascii_set!(NON_ALPHANUMERIC.remove(b'.').remove(b'_').
 
 /// Appends the name with each byte but letters, digits, `.`, `_` and `-` escaped.
 pub fn push_escaped(into: &mut Vec<u8>, name: &str) -> Result<(), AllocError>
-    ensures ok { OnOk result (into.new.items ≡ into.old.items ++ escaped name.now) }
-    ensures err { OnErr result (AddsFront into.old.items into.new.items (escaped name.now)) }
+    ensures ok { OnOk result (into.new.items ≡ into.old.items ++ escape_of name.now) }
+    ensures err { OnErr result (AddsFront into.old.items into.new.items (escape_of name.now)) }
 {
     for piece in percent_encode(name.as_bytes(), ESCAPED) {
         into.extend_from_slice(piece.as_bytes())?;
@@ -34,7 +34,7 @@ fn is_plain(byte: u8) -> bool
 
 /// How long the name is once it is escaped; past the end of a `usize` it is that end.
 pub fn escaped_len(name: &str) -> usize
-    ensures { result ≡ min (length (escaped name.now)) usize.MAX }
+    ensures { result ≡ min (length (escape_of name.now)) usize.MAX }
 {
     let mut len = 0usize;
     for byte in name.as_bytes() {
@@ -45,7 +45,7 @@ pub fn escaped_len(name: &str) -> usize
 
 // Whether the text is the name as it is escaped.
 fn is_spelled(mut text: &[u8], name: &[u8]) -> bool
-    ensures { IsTrue result ↔ (text.entry.now ≡ escaped name.now) }
+    ensures { IsTrue result ↔ (text.entry.now ≡ escape_of name.now) }
 {
     for piece in percent_encode(name, ESCAPED) {
         match after_front(text, piece.as_bytes()) {
@@ -60,8 +60,8 @@ fn is_spelled(mut text: &[u8], name: &[u8]) -> bool
 /// lower-case digits, is the spelling of none.
 pub fn unescape(alloc: Global, text: &[u8]) -> Result<Option<Vec<u8>>, AllocError>
     ensures { IfOk result (λ found. MatchOption found
-        ((bytes : List ℕ) → AreBytes bytes → escaped bytes ≢ text.now)
-        (λ bytes. AreBytes bytes.items × (escaped bytes.items ≡ text.now))) }
+        ((bytes : List ℕ) → AreBytes bytes → escape_of bytes ≢ text.now)
+        (λ bytes. AreBytes bytes.items × (escape_of bytes.items ≡ text.now))) }
 {
     let mut bytes = Vec::new(alloc);
     percent_decode(text).append_to(&mut bytes)?;

@@ -3,7 +3,7 @@ ghost use Rattle.std.specs.Prelude.{◌≡◌, ◌≢◌, ◌↔◌, ◌<◌, �
 ghost use Rattle.std.specs.Fmt.{decimal};
 ghost use Rattle.std.specs.Option.{option_copied, option_map};
 ghost use Rattle.std.specs.String.{string_bytes};
-ghost use Rattle.gob_bytes.specs.Escapes.{escaped};
+ghost use Rattle.gob_bytes.specs.Escapes.{escape_of};
 ghost use Rattle.gob_text.specs.Words.{EndsWord, GoesOnAtAll, HasNoBreak, IsLine, IsName, IsWord, Takes, TakesText};
 
 use crate::front::after_front;
@@ -112,7 +112,7 @@ impl<'a> Words<'a> {
     /// Takes a word that is the spelling of a name.
     pub fn take_name(&mut self, alloc: Global) -> Result<Option<String>, AllocError>
         ensures ok { IfOk result (λ taken.
-            Takes escaped IsName EndsWord self.old self.new (option_map string_bytes taken)) }
+            Takes escape_of IsName EndsWord self.old self.new (option_map string_bytes taken)) }
         ensures err { OnErr result (self.new ≡ self.old) }
     {
         let (word, rest) = split_word(self.rest);
@@ -129,8 +129,8 @@ impl<'a> Words<'a> {
 // The name that the word is the spelling of.
 fn name_of(alloc: Global, word: &[u8]) -> Result<Option<String>, AllocError>
     ensures { IfOk result (λ found. MatchOption found
-        ((name : List ℕ) → IsName name → escaped name ≢ word.now)
-        (λ name. IsName (string_bytes name) × (escaped (string_bytes name) ≡ word.now))) }
+        ((name : List ℕ) → IsName name → escape_of name ≢ word.now)
+        (λ name. IsName (string_bytes name) × (escape_of (string_bytes name) ≡ word.now))) }
 {
     if word.is_empty() {
         return Ok(None);

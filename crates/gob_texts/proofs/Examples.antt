@@ -2,7 +2,7 @@
 use Rattle.std.proofs.Common.{refl}
 use Rattle.std.specs.Fmt.{digits}
 use Rattle.percent_encoding.specs.Percent.{percent_encode_byte}
-use Rattle.gob_bytes.specs.Escapes.{escaped}
+use Rattle.gob_bytes.specs.Escapes.{escape_of}
 use Rattle.gob_bytes.specs.Lines.{lines_from}
 use Rattle.gob_device.specs.Supply.{bytes_from}
 use Rattle.gob_plan.specs.Tests.{test_holds}
@@ -25,7 +25,7 @@ use Rattle.gob_texts.specs.Examples.{WorkedCommands, WorkedRefusals, WorkedTexts
 use Rattle.std.specs.Str.{is_utf8, chars}
 
 pub worked : WorkedTexts
-unfolding digits percent_encode_byte is_utf8 chars lib.Utf8.encode escaped lines_from bytes_from test_holds unit_fold
+unfolding digits percent_encode_byte is_utf8 chars lib.Utf8.encode escape_of lines_from bytes_from test_holds unit_fold
     sent_to counts_of stop_of picks line_rows record_of made_in_branch line_made ruling warnings_of verdict_of sum_of
     units_of_parts next_state own_pulls turns_of verdicts_of report_of
 worked = record {
@@ -43,7 +43,7 @@ worked = record {
 }
 
 pub commands : WorkedCommands
-unfolding digits percent_encode_byte escaped columns_after state_report recovery_report check_report
+unfolding digits percent_encode_byte escape_of columns_after state_report recovery_report check_report
 commands = record {
   one_killed = refl;
   another_pipeline = refl;
@@ -56,7 +56,7 @@ commands = record {
 }
 
 pub refusals : WorkedRefusals
-unfolding digits percent_encode_byte escaped refusal_text
+unfolding digits percent_encode_byte escape_of refusal_text
 refusals = record {
   words = refl;
   absent = refl;

@@ -5,7 +5,7 @@ use Rattle.std.specs.List.{list_any}
 use Rattle.std.proofs.lemmas.Bool.{ltb-true, ltb-false}
 use Rattle.gob_ledger.specs.Marks.{Span, Done, has, InOrder}
 use Rattle.gob_ledger.proofs.Ranges.{inside, within, spans}
-use Rattle.gob_texts.specs.Report.{reached}
+use Rattle.gob_texts.specs.Report.{reached_offset}
 use Rattle.gob_texts.specs.Laws.{TellsWatermark}
 
 abbrev in_any : ℕ → List Done → Bool
@@ -30,12 +30,12 @@ not_in at s clash = elim (has at s) as (λ v. has at s ≡ v → v ≡ false) [
 ] refl
 
 -- every offset on the way is in a range
-on_the_way : (ds : List Done) (from at : ℕ) → from ≤ at → at < reached from ds → in_any at ds ≡ true
+on_the_way : (ds : List Done) (from at : ℕ) → from ≤ at → at < reached_offset from ds → in_any at ds ≡ true
 on_the_way [] from at low below = absurd (omega (arith, low, below))
 on_the_way (d ∷ ds) from at low below = cases (has from d.span) refl below (λ start l b. on_the_way ds start at l b)
   where
-    cases : (v : Bool) → has from d.span ≡ v → at < cond v (reached d.span.hi ds) (reached from ds)
-        → ((start : ℕ) → start ≤ at → at < reached start ds → in_any at ds ≡ true) → in_any at (d ∷ ds) ≡ true
+    cases : (v : Bool) → has from d.span ≡ v → at < cond v (reached_offset d.span.hi ds) (reached_offset from ds)
+        → ((start : ℕ) → start ≤ at → at < reached_offset start ds → in_any at ds ≡ true) → in_any at (d ∷ ds) ≡ true
     cases true is below later =
         elim (nat_lt at d.span.hi) as (λ v. nat_lt at d.span.hi ≡ v → in_any at (d ∷ ds) ≡ true) [
           | true ↦ λ e. or_left (has at d.span) (in_any at ds)
@@ -45,36 +45,36 @@ on_the_way (d ∷ ds) from at low below = cases (has from d.span) refl below (λ
     cases false is below later = or_right (has at d.span) (in_any at ds) (later from low below)
 
 -- it never goes back
-not_before : (ds : List Done) (from : ℕ) → from ≤ reached from ds
+not_before : (ds : List Done) (from : ℕ) → from ≤ reached_offset from ds
 not_before [] from = omega arith
 not_before (d ∷ ds) from = cases (has from d.span) refl (not_before ds)
   where
-    cases : (v : Bool) → has from d.span ≡ v → ((start : ℕ) → start ≤ reached start ds)
-        → from ≤ cond v (reached d.span.hi ds) (reached from ds)
+    cases : (v : Bool) → has from d.span ≡ v → ((start : ℕ) → start ≤ reached_offset start ds)
+        → from ≤ cond v (reached_offset d.span.hi ds) (reached_offset from ds)
     cases true is later = let w = within from d.span is in omega (arith, w.1, later d.span.hi)
     cases false is later = later from
 
 -- ranges that all begin behind an offset leave it where it is
-stays : (ds : List Done) (low from : ℕ) → InOrder low (spans ds) → from < low → reached from ds ≡ from
+stays : (ds : List Done) (low from : ℕ) → InOrder low (spans ds) → from < low → reached_offset from ds ≡ from
 stays [] low from order before = refl
 stays (d ∷ ds) low from (a, b, c) before =
-    ap (λ v. cond v (reached d.span.hi ds) (reached from ds))
+    ap (λ v. cond v (reached_offset d.span.hi ds) (reached_offset from ds))
     (not_in from d.span (λ e. let w = within from d.span e in omega (arith, w.0, a, before)))
     ∙ stays ds d.span.hi from c (omega (arith, a, b, before))
 
 -- where it ends is in no range
-ends_outside : (ds : List Done) (low from : ℕ) → InOrder low (spans ds) → in_any (reached from ds) ds ≡ false
+ends_outside : (ds : List Done) (low from : ℕ) → InOrder low (spans ds) → in_any (reached_offset from ds) ds ≡ false
 ends_outside [] low from order = refl
 ends_outside (d ∷ ds) low from (a, b, c) = cases (has from d.span) refl (λ start. ends_outside ds d.span.hi start c)
   where
-    cases : (v : Bool) → has from d.span ≡ v → ((start : ℕ) → in_any (reached start ds) ds ≡ false)
-        → in_any (cond v (reached d.span.hi ds) (reached from ds)) (d ∷ ds) ≡ false
+    cases : (v : Bool) → has from d.span ≡ v → ((start : ℕ) → in_any (reached_offset start ds) ds ≡ false)
+        → in_any (cond v (reached_offset d.span.hi ds) (reached_offset from ds)) (d ∷ ds) ≡ false
     cases true is later =
-        let w : ℕ = reached d.span.hi ds in
+        let w : ℕ = reached_offset d.span.hi ds in
         or_none (has w d.span) (in_any w ds) (not_in w d.span
         (λ e. let i = within w d.span e in omega (arith, i.1, not_before ds d.span.hi))) (later d.span.hi)
     cases false is later =
-        let w : ℕ = reached from ds in
+        let w : ℕ = reached_offset from ds in
         or_none (has w d.span) (in_any w ds) (not_in w d.span (λ e.
         let i = within w d.span e in
         elim (nat_lt from d.span.lo) as (λ v. nat_lt from d.span.lo ≡ v → ⊥) [

@@ -5,7 +5,7 @@ use Rattle.std.specs.declared.option.Option.TheVariants.{None, Some}
 use Rattle.std.specs.List.{count_by, flat_map, enumerate_from, join_with_byte, sum_by}
 use Rattle.std.specs.Fmt.{decimal}
 use Rattle.gob_bytes.specs.Words.{words}
-use Rattle.gob_bytes.specs.Escapes.{escaped}
+use Rattle.gob_bytes.specs.Escapes.{escape_of}
 use Rattle.gob_plan.specs.declared.rows.Column.{Column}
 use Rattle.gob_plan.specs.declared.rows.Kind.{Kind}
 use Rattle.gob_plan.specs.declared.rows.Kind.TheVariants as kind
@@ -21,12 +21,12 @@ use Rattle.gob_texts.specs.Report.{mark_line, total_lines}
 
 -- ---- report: what a state says
 
-abbrev pub open_line : List ℕ → Span → List ℕ
-open_line part s = words (codes "open") (escaped part ∷ decimal s.lo ∷ decimal s.hi ∷ [])
+abbrev pub open_range_line : List ℕ → Span → List ℕ
+open_range_line part s = words (codes "open") (escape_of part ∷ decimal s.lo ∷ decimal s.hi ∷ [])
 
 -- a partition's mark, and the ranges that it owes
 abbrev pub part_lines : List ℕ × Marks → List ℕ
-part_lines e = mark_line e ++ flat_map (open_line e.0) e.1.owed
+part_lines e = mark_line e ++ flat_map (open_range_line e.0) e.1.owed
 
 -- how many done ranges a pipeline made
 abbrev pub ranges_by : ℕ → State → ℕ
@@ -74,7 +74,7 @@ format_line columns p =
     [])
 
 abbrev pub unknown_line : List ℕ → List ℕ
-unknown_line key = words (codes "unknown") (escaped key ∷ [])
+unknown_line key = words (codes "unknown") (escape_of key ∷ [])
 
 -- the text for a job of this name and plan, and the keys of its file that aren't known
 unfoldable pub check_report : List ℕ → Plan → List (List ℕ) → List ℕ

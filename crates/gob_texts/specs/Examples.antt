@@ -12,7 +12,7 @@ use Rattle.gob_ledger.specs.State.{State}
 use Rattle.gob_ledger.specs.Units.{too_long, units_of}
 use Rattle.gob_ledger.specs.Next.{Judged, next_state}
 use Rattle.gob_ledger.specs.Turns.{verdicts_of}
-use Rattle.gob_ledger.specs.Examples.{span, done, fresh, lines_written, nothing_yet, job, two_lines, plain_state}
+use Rattle.gob_ledger.specs.Examples.{span, range_done, fresh, lines_written, nothing_yet, job, two_lines, plain_state}
 use Rattle.gob_ledger.specs.Examples.{killing, with_a_kill, after_a_kill, killed_unit, one_line_each, one_retry}
 use Rattle.std.specs.declared.option.Option.TheVariants.{None, Some}
 use Rattle.gob_plan.specs.declared.rows.Column.{Column}
@@ -30,8 +30,8 @@ use Rattle.gob_texts.specs.Refusals.{source_fault, volume_fault, memory, full}
 use Rattle.gob_texts.specs.Report.{commits_of, report_of}
 
 -- what a run tells of its units, those committed that its policies allow
-abbrev pub told : Job → List (List ℕ) → List Judged → State → List ℕ
-told job names all after = report_of job.name job.policy names all (commits_of job.scope job.policy all) after
+abbrev pub told_text : Job → List (List ℕ) → List Judged → State → List ℕ
+told_text job names all after = report_of job.name job.policy names all (commits_of job.scope job.policy all) after
 
 -- what a run over these partitions makes, where the turns with these numbers fail: its units, what becomes of each, the
 -- state after it, and its text
@@ -40,15 +40,15 @@ pub record Makes (job : Job) (held : Held) (failing : List ℕ) (before : State)
   pub its_units : units_of before held job.limits ≡ units
   pub its_verdicts : verdicts_of job held units failing ≡ verdicts
   pub its_state : next_state before job.pipeline units verdicts job.policy ≡ after
-  pub its_text : told job (too_long job.limits (names_of held)) (zip units verdicts) after ≡ text
+  pub its_text : told_text job (too_long job.limits (names_of held)) (zip units verdicts) after ≡ text
 
 -- each line a unit, and the line K kills its own; the good ones are committed
 abbrev pub killing_job : Job
 killing_job = record killing { name = codes "j12" }
 
 -- a unit for each line
-abbrev pub three_units : List WorkUnit
-three_units = fresh (codes "a.log") 0 2 ∷ fresh (codes "a.log") 2 4 ∷ fresh (codes "a.log") 4 6 ∷ []
+abbrev pub line_units : List WorkUnit
+line_units = fresh (codes "a.log") 0 2 ∷ fresh (codes "a.log") 2 4 ∷ fresh (codes "a.log") 4 6 ∷ []
 
 -- the second unit is killed by its line, at offset 2
 abbrev pub one_killed : List Verdict
@@ -64,7 +64,7 @@ one_each = fresh (codes "a") 0 2 ∷ fresh (codes "b") 0 2 ∷ []
 
 -- nothing is owed of two bytes
 abbrev pub all_done : Marks
-all_done = record { next = 2; finished = done 0 2 ∷ []; owed = [] }
+all_done = record { next = 2; finished = range_done 0 2 ∷ []; owed = [] }
 
 -- two bytes are owed
 abbrev pub all_owed : Marks
@@ -107,9 +107,9 @@ pub record WorkedTexts : Type 0 where
       (codes "job j1 policy full\ntotal records 0 bad 0 rows 0 unrouted 0\ntotal branch 0 written 0 errors 0 optional 0\nruns 0\nstatus 0\n")
   pub twice : Makes job two_lines [] plain_state [] [] plain_state
       (codes "job j1 policy full\nmark a.log 4 4\ntotal records 2 bad 0 rows 2 unrouted 0\ntotal branch 0 written 2 errors 0 optional 0\nruns 1\nstatus 0\n")
-  pub one_fails : Makes killing_job with_a_kill [] nothing_yet three_units one_killed after_a_kill
+  pub one_fails : Makes killing_job with_a_kill [] nothing_yet line_units one_killed after_a_kill
       (codes "job j12 policy successful\nunit a.log 0 2 committed records 1 bad 0 rows 1 unrouted 0\nbranch 0 written 1 errors 0 optional 0\nunit a.log 2 4 failed kill 0 0 2\nunit a.log 4 6 committed records 1 bad 0 rows 1 unrouted 0\nbranch 0 written 1 errors 0 optional 0\nmark a.log 2 6\ntotal records 2 bad 0 rows 2 unrouted 0\ntotal branch 0 written 2 errors 0 optional 0\nruns 1\nstatus 1\n")
-  pub one_holds_all_back : Makes (record killing_job { policy = Full }) with_a_kill [] nothing_yet three_units
+  pub one_holds_all_back : Makes (record killing_job { policy = Full }) with_a_kill [] nothing_yet line_units
       one_killed nothing_yet
       (codes "job j12 policy full\nunit a.log 0 2 held records 1 bad 0 rows 1 unrouted 0\nbranch 0 written 1 errors 0 optional 0\nunit a.log 2 4 failed kill 0 0 2\nunit a.log 4 6 held records 1 bad 0 rows 1 unrouted 0\nbranch 0 written 1 errors 0 optional 0\ntotal records 0 bad 0 rows 0 unrouted 0\ntotal branch 0 written 0 errors 0 optional 0\nruns 0\nstatus 1\n")
   pub one_is_gone : Makes killing_job [] [] after_a_kill (record killed_unit { listed = false } ∷ []) (failed Gone ∷ [])
@@ -127,7 +127,7 @@ pub record WorkedTexts : Type 0 where
   pub name_too_long : Makes job ((long_name, codes "x\n") ∷ []) [] nothing_yet [] [] nothing_yet
       (codes "job j1 policy full\ntoo-long " ++ long_name ++ codes
       "\ntotal records 0 bad 0 rows 0 unrouted 0\ntotal branch 0 written 0 errors 0 optional 0\nruns 0\nstatus 0\n")
-  pub one_dataset : told two_datasets [] both_datasets after_second_dataset
+  pub one_dataset : told_text two_datasets [] both_datasets after_second_dataset
       ≡ codes "job j16 policy full\nunit a%2Fx 0 2 failed kill 0 0 0\nunit b%2Fx 0 2 committed records 1 bad 0 rows 1 unrouted 0\nbranch 0 written 1 errors 0 optional 0\nmark b%2Fx 2 2\ntotal records 1 bad 0 rows 1 unrouted 0\ntotal branch 0 written 1 errors 0 optional 0\nruns 1\nstatus 1\n"
 
 -- ---- commands
@@ -136,7 +136,7 @@ pub record WorkedTexts : Type 0 where
 abbrev pub two_ranges : Marks
 two_ranges = record {
   next = 6;
-  finished = done 0 4 ∷ record { span = span 4 6; pipeline = 1 } ∷ [];
+  finished = range_done 0 4 ∷ record { span = span 4 6; pipeline = 1 } ∷ [];
   owed = [];
 }
 
@@ -149,14 +149,14 @@ two_pipelines = record {
 }
 
 -- a column of a kind
-abbrev pub column : List ℕ → Kind → Column
-column name kind = record { name = name; kind = kind }
+abbrev pub byte_column : List ℕ → Kind → Column
+byte_column name kind = record { name = name; kind = kind }
 
 -- errors go to csv with two of the columns, all else to json
 abbrev pub two_outputs : Plan
 two_outputs = record plain_plan {
   format = format.Json;
-  columns = column (codes "ip") kind.Text ∷ column (codes "path") kind.Text ∷ column (codes "status") kind.Int ∷ [];
+  columns = byte_column (codes "ip") kind.Text ∷ byte_column (codes "path") kind.Text ∷ byte_column (codes "status") kind.Int ∷ [];
   branches =
       record {
         steps = step.Keep (codes "status" ∷ codes "path" ∷ []) ∷ [];
@@ -179,7 +179,7 @@ pub record WorkedCommands : Type 0 where
   pub was_closed : recovery_report (codes "j1") false ≡ codes "recovered j1 sequence none\nstatus 0\n"
   pub checked : check_report (codes "clicks") two_outputs (codes "data.publisher.final.dir" ∷ codes "a b" ∷ [] ∷ [])
       ≡ codes "job clicks ok\nbranch 0 csv status:int,path:text\nbranch 1 json ip:text,path:text,status:int\nunknown data.publisher.final.dir\nunknown a%20b\nunknown \nstatus 0\n"
-  pub checked_bool : columns_word (column (codes "b") kind.Bool ∷ []) ≡ codes "b:bool"
+  pub checked_bool : columns_word (byte_column (codes "b") kind.Bool ∷ []) ≡ codes "b:bool"
   pub checked_lines : check_report (codes "j1") plain_plan [] ≡ codes "job j1 ok\nbranch 0 lines line:text\nstatus 0\n"
 
 -- a refusal and its text

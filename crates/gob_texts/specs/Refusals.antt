@@ -1,11 +1,11 @@
 -- What a call that is refused writes: a line that says why, and a line with the status.
 use Rattle.std.specs.Prelude.{ℕ, List, [], ◌∷◌, ◌++◌, codes}
 use Rattle.std.specs.Fmt.{decimal}
-use Rattle.gob_bytes.specs.Escapes.{escaped}
-use Rattle.gob_bytes.specs.Words.{words, numbered}
+use Rattle.gob_bytes.specs.Escapes.{escape_of}
+use Rattle.gob_bytes.specs.Words.{words, numbered_line}
 
 abbrev pub status_line : ℕ → List ℕ
-status_line status = numbered (codes "status") (status ∷ [])
+status_line status = numbered_line (codes "status") (status ∷ [])
 
 -- why, as a first word and others, and the status
 abbrev pub refused_text : List ℕ → List (List ℕ) → ℕ → List ℕ
@@ -55,7 +55,7 @@ refusal_line (no_column key column) = refused_line (codes "no-column" ∷ key �
 refusal_line (bad_kind key column) = refused_line (codes "bad-kind" ∷ key ∷ column ∷ [])
 refusal_line (interpolation key) = refused_line (codes "interpolation" ∷ key ∷ [])
 refusal_line (damaged name) = refused_line (codes "damaged" ∷ name ∷ [])
-refusal_line (shrunk part next size) = refused_line (codes "shrunk" ∷ escaped part ∷ decimal next ∷ decimal size ∷ [])
+refusal_line (shrunk part next size) = refused_line (codes "shrunk" ∷ escape_of part ∷ decimal next ∷ decimal size ∷ [])
 refusal_line source_fault = refused_line (codes "source-fault" ∷ [])
 refusal_line volume_fault = refused_line (codes "volume-fault" ∷ [])
 refusal_line memory = refused_line (codes "memory" ∷ [])

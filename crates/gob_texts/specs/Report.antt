@@ -2,8 +2,8 @@
 use Rattle.std.specs.Prelude.{ℕ, Bool, if◌then◌else◌, List, [], ◌∷◌, ◌++◌, map, codes}
 use Rattle.std.specs.List.{flat_map, enumerate_from, list_all, zip}
 use Rattle.std.specs.Fmt.{decimal}
-use Rattle.gob_bytes.specs.Words.{words, numbered}
-use Rattle.gob_bytes.specs.Escapes.{escaped}
+use Rattle.gob_bytes.specs.Words.{words, numbered_line}
+use Rattle.gob_bytes.specs.Escapes.{escape_of}
 use Rattle.gob_plan.specs.declared.plan.CommitPolicy.{CommitPolicy}
 use Rattle.gob_plan.specs.declared.plan.CommitPolicy.TheVariants.{Full, Successful}
 use Rattle.gob_plan.specs.declared.units.BranchCounts.{BranchCounts}
@@ -28,7 +28,7 @@ job_line job policy = words (codes "job") (job ∷ codes "policy" ∷ policy_wor
 
 -- a partition that is left alone for its name
 abbrev pub too_long_line : List ℕ → List ℕ
-too_long_line part = words (codes "too-long") (escaped part ∷ [])
+too_long_line part = words (codes "too-long") (escape_of part ∷ [])
 
 -- counts, each with its word
 abbrev pub tally : Counts → List (List ℕ)
@@ -53,13 +53,13 @@ cause_words cause.Fault = codes "fault" ∷ []
 
 -- a unit by its partition and its range, and then these words
 abbrev pub unit_line : WorkUnit → List (List ℕ) → List ℕ
-unit_line u others = words (codes "unit") (escaped u.part ∷ decimal u.lo ∷ decimal u.hi ∷ others)
+unit_line u others = words (codes "unit") (escape_of u.part ∷ decimal u.lo ∷ decimal u.hi ∷ others)
 
 abbrev pub branch_lines : Counts → List ℕ
 branch_lines c = flat_map (λ b. words (codes "branch") (branch_tally b)) (enumerate_from 0 c.branches)
 
 abbrev pub warning_lines : List ℕ → List ℕ
-warning_lines warnings = flat_map (λ w. numbered (codes "warning") (w ∷ [])) warnings
+warning_lines warnings = flat_map (λ w. numbered_line (codes "warning") (w ∷ [])) warnings
 
 -- what became of a unit; a good one that the policy doesn't let through is held
 abbrev pub unit_lines : Bool → WorkUnit → Verdict → List ℕ
@@ -77,16 +77,16 @@ abbrev pub commits_of : CommitScope → CommitPolicy → List Judged → List Bo
 commits_of scope policy all = map (is_committed scope policy all) all
 
 -- up to where the done ranges follow each other from here
-abbrev pub reached : ℕ → List Done → ℕ
-reached at [] = at
-reached at (d ∷ ds) = if has at d.span then reached d.span.hi ds else reached at ds
+abbrev pub reached_offset : ℕ → List Done → ℕ
+reached_offset at [] = at
+reached_offset at (d ∷ ds) = if has at d.span then reached_offset d.span.hi ds else reached_offset at ds
 
 -- the least offset that is in no done range
 abbrev pub watermark_of : Marks → ℕ
-watermark_of m = reached 0 m.finished
+watermark_of m = reached_offset 0 m.finished
 
 abbrev pub mark_line : List ℕ × Marks → List ℕ
-mark_line e = words (codes "mark") (escaped e.0 ∷ decimal (watermark_of e.1) ∷ decimal e.1.next ∷ [])
+mark_line e = words (codes "mark") (escape_of e.0 ∷ decimal (watermark_of e.1) ∷ decimal e.1.next ∷ [])
 
 -- what all units made, in all and in each branch
 abbrev pub count_lines : Counts → List ℕ
@@ -95,7 +95,7 @@ count_lines c = words (codes "total") (tally c) ++ flat_map (λ b.
 
 -- what the state says in all
 abbrev pub total_lines : State → List ℕ
-total_lines s = count_lines s.totals ++ numbered (codes "runs") (s.run ∷ [])
+total_lines s = count_lines s.totals ++ numbered_line (codes "runs") (s.run ∷ [])
 
 -- 0 where every unit is good, else 1
 abbrev pub run_status : List Verdict → ℕ

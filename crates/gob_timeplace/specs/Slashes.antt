@@ -1,7 +1,7 @@
 -- A day's folder ends in a slash.
 use Rattle.std.proofs.Common.{◌≡◌, ◌⊎◌, inr, ℕ, List, [], ◌∷◌, ◌++◌, ◌/◌, nat_le, pos, negsuc, codes, refl}
 use Rattle.std.proofs.lemmas.Bool.{cond_both}
-use Rattle.gob_bytes.specs.Digits.{padded}
+use Rattle.gob_bytes.specs.Digits.{padded_digits}
 use Rattle.gob_plan.specs.declared.rows.Value.{Value}
 use Rattle.gob_plan.specs.declared.rows.Value.TheVariants as value
 use Rattle.gob_meaning.specs.Days.{date_of, last_second, date_folder, no_day, day_folder}
@@ -20,5 +20,5 @@ ends_in_slash (value.Int (negsuc n)) = none
 ends_in_slash (value.Int (pos second)) =
     let date = date_of (second / 86400) in
     cond_both (nat_le second last_second) (date_folder date) no_day Ends
-    (λ _. inr (padded 4 date.year ++ 47 ∷ padded 2 date.month ++ 47 ∷ padded 2 date.day, refl))
+    (λ _. inr (padded_digits 4 date.year ++ 47 ∷ padded_digits 2 date.month ++ 47 ∷ padded_digits 2 date.day, refl))
     (λ _. none)

@@ -4,7 +4,7 @@ ghost use Rattle.std.specs.Prelude.{◌≡◌, ◌+◌, ◌%◌, get_or, option_
 ghost use Rattle.gob_plan.specs.declared.rows.Row.{Row as Line};
 ghost use Rattle.gob_plan.specs.declared.rows.Value.TheVariants as value;
 ghost use Rattle.gob_meaning.specs.Days.{date_folder, day_folder};
-ghost use Rattle.gob_timeplace.specs.Folders.{IsDayOf, parts_of};
+ghost use Rattle.gob_timeplace.specs.Folders.{IsDayOf, date_parts};
 
 use gob_convert::Placer;
 use gob_plan::{Row, Value};
@@ -101,7 +101,7 @@ fn date_of(second: i64) -> Option<Date>
 
 #[tactic(auto, unfolding(gob_bytes::specs::Digits::padded))]
 fn folder(date: Date) -> [u8; 11]
-    ensures { result ≡ date_folder (parts_of date) }
+    ensures { result ≡ date_folder (date_parts date) }
 {
     let year = date.year.unsigned_abs();
     let month = u16::from(date.month);

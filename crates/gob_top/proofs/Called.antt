@@ -9,7 +9,7 @@ use Rattle.gob_bytes.specs.Names.{begins_as_job, is_job_byte, is_job_name}
 use Rattle.gob_bytes.specs.Paths.{job_file}
 use Rattle.gob_device.specs.Names.{IsPathname}
 use Rattle.gob_device.proofs.Names.{name_before, name_behind, name_bytes}
-use Rattle.gob_recovery.specs.Sequence.{is_file_name, is_name_byte}
+use Rattle.gob_recovery.specs.Sequence.{is_file_name, is_sequence_byte}
 use Rattle.gob_top.specs.Answers.{job_of_words}
 
 -- ---- a job's file
@@ -23,18 +23,18 @@ job_file_named job name is named =
 
 pub file_pathname : (name : List ℕ) → is_file_name name ≡ true → IsPathname name
 file_pathname [] e = e
-file_pathname (b ∷ bs) e = name_bytes is_name_byte refl (b ∷ bs) e
+file_pathname (b ∷ bs) e = name_bytes is_sequence_byte refl (b ∷ bs) e
 
-job_byte : (b : ℕ) → is_job_byte b ≡ true → is_name_byte b ≡ true
+job_byte : (b : ℕ) → is_job_byte b ≡ true → is_sequence_byte b ≡ true
 job_byte b e = grind (arith, nat_tests)
 
-job_bytes : (bytes : List ℕ) → list_all is_job_byte bytes ≡ true → list_all is_name_byte bytes ≡ true
+job_bytes : (bytes : List ℕ) → list_all is_job_byte bytes ≡ true → list_all is_sequence_byte bytes ≡ true
 job_bytes [] all = refl
 job_bytes (b ∷ bs) all =
     let p = and_parts (is_job_byte b) (list_all is_job_byte bs) all in
     rw (job_byte b p.0) (job_bytes bs p.1)
 
-begun : (name : List ℕ) → begins_as_job name ≡ true → list_all is_name_byte name ≡ true → is_file_name name ≡ true
+begun : (name : List ℕ) → begins_as_job name ≡ true → list_all is_sequence_byte name ≡ true → is_file_name name ≡ true
 begun [] begins all = absurd (let no : false ≡ true = begins in cc)
 begun (b ∷ bs) begins all = all
 

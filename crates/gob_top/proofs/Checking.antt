@@ -5,7 +5,7 @@ use Rattle.std.specs.declared.result.Result.TheVariants.{Err}
 use Rattle.gob_device.specs.Disk.{Disk}
 use Rattle.gob_texts.specs.Refusals as texts
 use Rattle.gob_run.specs.World.{World}
-use Rattle.gob_top.specs.Answers.{Told, refused}
+use Rattle.gob_top.specs.Answers.{Told, refusal_told}
 use Rattle.gob_top.specs.Checks.{CheckAnswered, check_told, checked, failure, starved}
 use Rattle.gob_top.specs.Found.{NotFound}
 use Rattle.gob_top.specs.Found as found
@@ -30,23 +30,23 @@ stays_put w old new before now disk later = record {
 
 -- the file gives no job, or wasn't read
 pub not_checked : (job : List ℕ) (w : World) (old new : Option Disk) (before now : ℕ) (why : texts.Refusal) (t : Told)
-    → NotFound job old before now why → new ≡ old → before ≤ now → t ≡ refused why
+    → NotFound job old before now why → new ≡ old → before ≤ now → t ≡ refusal_told why
     → CheckAnswered job (filed w old before) (filed w new now) t
 not_checked job w old new before now why t (found.given gives unfailed) disk later tells = record {
   caused = checked (Err why) gives (inl tells) (same_world w old new before now disk unfailed);
   stays = stays_put w old new before now disk later;
 }
 not_checked job w old new before now why t (found.failed is rose) disk later tells = record {
-  caused = failure (inl (tells ∙ ap refused is)) rose;
+  caused = failure (inl (tells ∙ ap refusal_told is)) rose;
   stays = stays_put w old new before now disk later;
 }
 not_checked job w old new before now why t (found.starved is) disk later tells = record {
-  caused = starved (tells ∙ ap refused is);
+  caused = starved (tells ∙ ap refusal_told is);
   stays = stays_put w old new before now disk later;
 }
 
 pub check_starved : (job : List ℕ) (w : World) (old new : Option Disk) (before now : ℕ) (t : Told) → new ≡ old
-    → before ≤ now → t ≡ refused texts.memory → CheckAnswered job (filed w old before) (filed w new now) t
+    → before ≤ now → t ≡ refusal_told texts.memory → CheckAnswered job (filed w old before) (filed w new now) t
 check_starved job w old new before now t disk later tells =
     record { caused = starved tells; stays = stays_put w old new before now disk later }
 

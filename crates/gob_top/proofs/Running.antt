@@ -15,7 +15,7 @@ use Rattle.gob_state.specs.Committed.{judged_by, verdicts_in}
 use Rattle.gob_texts.specs.Refusals as texts
 use Rattle.gob_run.specs.Answers.{Answer, RunAnswered}
 use Rattle.gob_run.specs.World.{World}
-use Rattle.gob_top.specs.Answers.{Tells, Told, refused}
+use Rattle.gob_top.specs.Answers.{Tells, Told, refusal_told}
 use Rattle.gob_top.specs.Found.{NotFound}
 use Rattle.gob_top.specs.Found as found
 use Rattle.gob_top.specs.Jobs.{FileGives}
@@ -24,14 +24,14 @@ use Rattle.gob_top.proofs.Checking.{filed, same_world, stays_put}
 
 -- the file gives no job, or wasn't read
 pub not_run : (job : List ℕ) (w : World) (old new : Option Disk) (before now : ℕ) (why : texts.Refusal) (t : Told)
-    → NotFound job old before now why → new ≡ old → before ≤ now → t ≡ refused why
+    → NotFound job old before now why → new ≡ old → before ≤ now → t ≡ refusal_told why
     → RunTold job (filed w old before) (filed w new now) t
 not_run job w old new before now why t (found.given gives unfailed) disk later tells =
     refusal why gives (inl tells) (same_world w old new before now disk unfailed)
 not_run job w old new before now why t (found.failed is rose) disk later tells =
-    failure (inl (tells ∙ ap refused is)) rose (stays_put w old new before now disk later)
+    failure (inl (tells ∙ ap refusal_told is)) rose (stays_put w old new before now disk later)
 not_run job w old new before now why t (found.starved is) disk later tells =
-    starved (tells ∙ ap refused is) (stays_put w old new before now disk later)
+    starved (tells ∙ ap refusal_told is) (stays_put w old new before now disk later)
 
 -- what a run of a job leaves and tells, over the volume that the file was read from
 pub job_ran : (job : List ℕ) (w new : World) (old read : Option Disk) (before after : ℕ) (j : Job)

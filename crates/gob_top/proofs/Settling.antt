@@ -10,7 +10,7 @@ use Rattle.gob_device.proofs.Trail.{maps_map}
 use Rattle.gob_recovery.specs.Commits.{OnlyBelow}
 use Rattle.gob_recovery.specs.Settle.{IsDamaged, Settles}
 use Rattle.gob_seq.specs.Faults.{DamageDue, Damages, RoseIfSettleFailed}
-use Rattle.gob_seq.specs.Maps.{Becomes, ImagesSettleTheSame, OnlyUnstages, SettlesByName}
+use Rattle.gob_seq.specs.Maps.{EndsBy, ImagesSettleTheSame, OnlyUnstages, SettlesByName}
 use Rattle.gob_seq.specs.declared.faults.SettleFault.{SettleFault}
 use Rattle.gob_seq.specs.declared.faults.SettleFault.TheVariants as settle
 use Rattle.gob_seq.specs.declared.settling.Settled.{Settled}
@@ -19,7 +19,7 @@ use Rattle.gob_segments.specs.declared.change.Loaded.{Loaded}
 use Rattle.gob_texts.specs.Commands.{recovery_report, state_report}
 use Rattle.gob_texts.specs.Refusals as texts
 use Rattle.gob_run.specs.Answers as run
-use Rattle.gob_run.specs.Entry.{Entry, IsBroken, LeftBroken, OnlySettled, SettledTo}
+use Rattle.gob_run.specs.Entry.{SettledEntry, IsBroken, LeftBroken, OnlySettled, SettledTo}
 use Rattle.gob_run.specs.Faults.{BeginsNot, Finds}
 use Rattle.gob_run.specs.World.{WhereFiled, World}
 use Rattle.gob_run.specs.declared.fault.RunFault.{RunFault}
@@ -27,11 +27,11 @@ use Rattle.gob_run.specs.declared.fault.RunFault.TheVariants as fault
 use Rattle.gob_run.proofs.Entering.{settling_trail}
 use Rattle.gob_run.proofs.Readers.{readers_of_settling}
 use Rattle.gob_run.proofs.Settled.{OnlySettle, only_settled, settle_alike, settled_to}
-use Rattle.gob_top.specs.Answers.{Told, refused}
+use Rattle.gob_top.specs.Answers.{Told, refusal_told}
 use Rattle.gob_top.specs.Faults.{settle_refusal}
 use Rattle.gob_top.specs.Runs.{run_refusal}
 use Rattle.gob_top.specs.Settlings.{IsRecovered, IsReported, OnlySettles, RecoverAnswered, ReportAnswered}
-use Rattle.gob_top.specs.Settlings.{SettlingTrail, ToldFirst, damaged, failure, recovered, reported, starved}
+use Rattle.gob_top.specs.Settlings.{SettlingTrail, TellsFirst, damaged, failure, recovered, reported, starved}
 use Rattle.gob_top.proofs.Checking.{filed}
 
 -- ---- the maps on the way
@@ -89,7 +89,7 @@ only_settles job w old new before now way = record {
 
 -- as the damage that is due is told
 abbrev DamageTold : List ℕ → Option Disk → Told → Type 0
-DamageTold job old t = IfSome old (λ d. (name : List ℕ) → IsDamaged job d.files name → ToldFirst (texts.damaged name) t)
+DamageTold job old t = IfSome old (λ d. (name : List ℕ) → IsDamaged job d.files name → TellsFirst (texts.damaged name) t)
 
 -- the clause on damage of what settles
 abbrev pub SettlesDue : List ℕ → Option Disk → Option Disk → Result Settled SettleFault → Type 0
@@ -97,14 +97,14 @@ SettlesDue job old new r =
     IfSome old (λ d. (name : List ℕ) → IsDamaged job d.files name → DamageDue name r × (new ≡ old))
 
 fault_due : (job : List ℕ) (old new : Option Disk) (f : SettleFault) (t : Told)
-    → SettlesDue job old new (Err f) → t ≡ refused (settle_refusal f) → DamageTold job old t
+    → SettlesDue job old new (Err f) → t ≡ refusal_told (settle_refusal f) → DamageTold job old t
 fault_due job None new f t due tells = tt
 fault_due job (Some d) new f t due tells = λ name is. told name (due name is).0
   where
-    as_is : (g : SettleFault) → f ≡ g → t ≡ refused (settle_refusal g)
-    as_is g same = tells ∙ ap (λ h. refused (settle_refusal h)) same
+    as_is : (g : SettleFault) → f ≡ g → t ≡ refusal_told (settle_refusal g)
+    as_is g same = tells ∙ ap (λ h. refusal_told (settle_refusal h)) same
 
-    told : (name : List ℕ) → DamageDue {T = Settled} name (Err f) → ToldFirst (texts.damaged name) t
+    told : (name : List ℕ) → DamageDue {T = Settled} name (Err f) → TellsFirst (texts.damaged name) t
     told name (inl same) = inl (as_is (settle.Damaged name) (cc))
     told name (inr (inl same)) = inr (inl (as_is settle.Failed (cc)))
     told name (inr (inr same)) = inr (inr (as_is settle.Memory (cc)))
@@ -114,13 +114,13 @@ settled_due : (job : List ℕ) (old new : Option Disk) (s : Settled) (t : Told)
 settled_due job None new s t due = tt
 settled_due job (Some d) new s t due = λ name is. never name (due name is).0
   where
-    never : (name : List ℕ) → DamageDue name (Ok s) → ToldFirst (texts.damaged name) t
+    never : (name : List ℕ) → DamageDue name (Ok s) → TellsFirst (texts.damaged name) t
     never name (inl same) = absurd (cc)
     never name (inr (inl same)) = absurd (cc)
     never name (inr (inr same)) = absurd (cc)
 
 fault_recovered : (job : List ℕ) (w : World) (old new : Option Disk) (before now : ℕ) (f : SettleFault) (t : Told)
-    → Damages job old new f → RoseIfSettleFailed before now f → t ≡ refused (settle_refusal f)
+    → Damages job old new f → RoseIfSettleFailed before now f → t ≡ refusal_told (settle_refusal f)
     → IsRecovered job (filed w old before) (filed w new now) t
 fault_recovered job w old new before now settle.Failed t damages rose tells = failure (inl tells) rose
 fault_recovered job w old new before now settle.Memory t damages rose tells = starved tells
@@ -129,7 +129,7 @@ fault_recovered job w old new before now (settle.Damaged name) t damages rose te
 
 pub not_recovered : (job : List ℕ) (w : World) (old new : Option Disk) (before now : ℕ) (f : SettleFault)
     (t : Told) → OnItsWay job old new before now → Damages job old new f → RoseIfSettleFailed before now f
-    → SettlesDue job old new (Err f) → t ≡ refused (settle_refusal f)
+    → SettlesDue job old new (Err f) → t ≡ refusal_told (settle_refusal f)
     → RecoverAnswered job (filed w old before) (filed w new now) t
 not_recovered job w old new before now f t way damages rose due tells = record {
   caused = fault_recovered job w old new before now f t damages rose tells;
@@ -138,7 +138,7 @@ not_recovered job w old new before now f t way damages rose due tells = record {
 }
 
 pub recover_starved : (job : List ℕ) (w : World) (old new : Option Disk) (before now : ℕ) (s : Settled) (t : Told)
-    → OnItsWay job old new before now → SettlesDue job old new (Ok s) → t ≡ refused texts.memory
+    → OnItsWay job old new before now → SettlesDue job old new (Ok s) → t ≡ refusal_told texts.memory
     → RecoverAnswered job (filed w old before) (filed w new now) t
 recover_starved job w old new before now s t way due tells = record {
   caused = starved tells;
@@ -147,7 +147,7 @@ recover_starved job w old new before now s t way due tells = record {
 }
 
 pub all_recovered : (job : List ℕ) (w : World) (old new : Option Disk) (before now : ℕ) (s : Settled) (t : Told)
-    → OnItsWay job old new before now → SettlesDue job old new (Ok s) → AddsMaps (Becomes (Settles job)) old new
+    → OnItsWay job old new before now → SettlesDue job old new (Ok s) → AddsMaps (EndsBy (Settles job)) old new
     → IfSome old (λ d. s.was_open ≡ is_some (d.files (sequence_name job))) → t ≡ (0, recovery_report job s.was_open)
     → RecoverAnswered job (filed w old before) (filed w new now) t
 all_recovered job w old new before now s t way due settles was tells = record {
@@ -161,7 +161,7 @@ all_recovered job w old new before now s t way due settles was tells = record {
 
 -- as what is broken is told
 abbrev BreakTold : List ℕ → Option Disk → Told → Type 0
-BreakTold job old t = IfSome old (λ d. (name : List ℕ) → IsBroken job d.files name → ToldFirst (texts.damaged name) t)
+BreakTold job old t = IfSome old (λ d. (name : List ℕ) → IsBroken job d.files name → TellsFirst (texts.damaged name) t)
 
 -- the clause on damage of what settles and loads
 abbrev pub LoadsDue : List ℕ → Option Disk → Result Loaded RunFault → Type 0
@@ -169,14 +169,14 @@ LoadsDue job old r =
     IfSome old (λ d. (name : List ℕ) → IsBroken job d.files name → run.ToldFirst r (fault.Damaged name))
 
 break_due : (job : List ℕ) (old : Option Disk) (f : RunFault) (t : Told) → LoadsDue job old (Err f)
-    → t ≡ refused (run_refusal f) → BreakTold job old t
+    → t ≡ refusal_told (run_refusal f) → BreakTold job old t
 break_due job None f t due tells = tt
 break_due job (Some d) f t due tells = λ name is. told name (due name is)
   where
-    as_is : (g : RunFault) → f ≡ g → t ≡ refused (run_refusal g)
-    as_is g same = tells ∙ ap (λ h. refused (run_refusal h)) same
+    as_is : (g : RunFault) → f ≡ g → t ≡ refusal_told (run_refusal g)
+    as_is g same = tells ∙ ap (λ h. refusal_told (run_refusal h)) same
 
-    told : (name : List ℕ) → run.ToldFirst {T = Loaded} (Err f) (fault.Damaged name) → ToldFirst (texts.damaged name) t
+    told : (name : List ℕ) → run.ToldFirst {T = Loaded} (Err f) (fault.Damaged name) → TellsFirst (texts.damaged name) t
     told name (inl same) = inl (as_is (fault.Damaged name) (cc))
     told name (inr (inl same)) = inr (inl (as_is fault.VolumeFault (cc)))
     told name (inr (inr same)) = inr (inr (as_is fault.Memory (cc)))
@@ -185,7 +185,7 @@ loaded_due : (job : List ℕ) (old : Option Disk) (l : Loaded) (t : Told) → Lo
 loaded_due job None l t due = tt
 loaded_due job (Some d) l t due = λ name is. never name (due name is)
   where
-    never : (name : List ℕ) → run.ToldFirst (Ok l) (fault.Damaged name) → ToldFirst (texts.damaged name) t
+    never : (name : List ℕ) → run.ToldFirst (Ok l) (fault.Damaged name) → TellsFirst (texts.damaged name) t
     never name (inl same) = absurd (cc)
     never name (inr (inl same)) = absurd (cc)
     never name (inr (inr same)) = absurd (cc)
@@ -200,7 +200,7 @@ where_both P w old new before now b = λ d here. told old new b d here
     told (Some c) (Some e) b d here = let same : c ≡ d = cc in (e, refl, subst (λ x. P x e) same b)
 
 fault_reported : (job : List ℕ) (w : World) (old new : Option Disk) (before now : ℕ) (f : RunFault) (t : Told)
-    → BeginsNot job old new before now f → t ≡ refused (run_refusal f)
+    → BeginsNot job old new before now f → t ≡ refusal_told (run_refusal f)
     → IsReported job (filed w old before) (filed w new now) t
 fault_reported job w old new before now (fault.Damaged name) t stops tells =
     damaged name (where_both (LeftBroken job name) w old new before now stops) (inl tells)
@@ -212,7 +212,7 @@ fault_reported job w old new before now fault.Memory t stops tells = starved tel
 
 pub not_reported : (job : List ℕ) (w : World) (old new : Option Disk) (before now : ℕ) (f : RunFault)
     (t : Told) → OnItsWay job old new before now → BeginsNot job old new before now f → LoadsDue job old (Err f)
-    → t ≡ refused (run_refusal f) → ReportAnswered job (filed w old before) (filed w new now) t
+    → t ≡ refusal_told (run_refusal f) → ReportAnswered job (filed w old before) (filed w new now) t
 not_reported job w old new before now f t way stops due tells = record {
   caused = fault_reported job w old new before now f t stops tells;
   due = break_due job old f t due tells;
@@ -220,7 +220,7 @@ not_reported job w old new before now f t way stops due tells = record {
 }
 
 pub report_starved : (job : List ℕ) (w : World) (old new : Option Disk) (before now : ℕ) (l : Loaded) (t : Told)
-    → OnItsWay job old new before now → LoadsDue job old (Ok l) → t ≡ refused texts.memory
+    → OnItsWay job old new before now → LoadsDue job old (Ok l) → t ≡ refusal_told texts.memory
     → ReportAnswered job (filed w old before) (filed w new now) t
 report_starved job w old new before now l t way due tells = record {
   caused = starved tells;
@@ -230,7 +230,7 @@ report_starved job w old new before now l t way due tells = record {
 
 -- what was loaded is what is found there
 entry_is : (job : List ℕ) (l : Loaded) (old new : Option Disk) → AddsMaps (Finds job l) old new
-    → IfSome old (λ d. Entry job d.files l.state)
+    → IfSome old (λ d. SettledEntry job d.files l.state)
 entry_is job l None new a = tt
 entry_is job l (Some d) None a = absurd a.told
 entry_is job l (Some d) (Some e) a =
@@ -252,5 +252,5 @@ all_reported job w old new before now l t way due finds tells = record {
   settles = only_settles job w old new before now way;
 }
   where
-    settles : AddsMaps (Becomes (Settles job)) old new
+    settles : AddsMaps (EndsBy (Settles job)) old new
     settles = maps_map (λ m added f. f.0) finds

@@ -12,12 +12,12 @@ use Rattle.gob_texts.specs.Refusals as texts
 abbrev pub Told : Type 0
 Told = ℕ × List ℕ
 
-abbrev pub refused : texts.Refusal → Told
-refused r = (texts.refusal_status r, texts.refusal_text r)
+abbrev pub refusal_told : texts.Refusal → Told
+refusal_told r = (texts.refusal_status r, texts.refusal_text r)
 
 -- this is told, or that no memory was left to tell it
 abbrev pub Tells : Told → Told → Type 0
-Tells due t = (t ≡ due) ⊎ (t ≡ refused texts.memory)
+Tells due t = (t ≡ due) ⊎ (t ≡ refusal_told texts.memory)
 
 -- a front of the text was written, by one write
 abbrev pub WroteFront : Told → Option Output → Option Output → Type 0

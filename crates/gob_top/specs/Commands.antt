@@ -3,14 +3,14 @@ use Rattle.std.specs.Prelude.{◌≡◌, ℕ, List, MatchOption, codes}
 use Rattle.std.specs.declared.option.Option.{Option}
 use Rattle.gob_run.specs.World.{World}
 use Rattle.gob_texts.specs.Refusals as texts
-use Rattle.gob_top.specs.Answers.{Tells, Told, job_of_words, refused}
+use Rattle.gob_top.specs.Answers.{Tells, Told, job_of_words, refusal_told}
 use Rattle.gob_top.specs.Checks.{CheckAnswered}
 use Rattle.gob_top.specs.Runs.{RunTold}
 use Rattle.gob_top.specs.Settlings.{RecoverAnswered, ReportAnswered}
 
 -- words that are no command line change nothing
 pub record UsageAnswered (old new : World) (t : Told) : Type 0 where
-  pub told : Tells (refused texts.usage) t
+  pub told : Tells (refusal_told texts.usage) t
   pub same : new ≡ old
 
 -- of the job that this verb has, or else

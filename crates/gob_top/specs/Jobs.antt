@@ -42,10 +42,10 @@ abbrev pub job_in_text : List ℕ → Result (Table (List ℕ)) PropsFault → R
 job_in_text job (Ok entries) = job_in entries (job_of job entries)
 job_in_text job (Err fault) = Err (text_refusal fault)
 
-unfoldable pub job_in_file : List ℕ → Option (List ℕ) → Read
-job_in_file job None = Err texts.no_job
-job_in_file job (Some bytes) = job_in_text job (properties_of bytes)
+unfoldable pub read_of_file : List ℕ → Option (List ℕ) → Read
+read_of_file job None = Err texts.no_job
+read_of_file job (Some bytes) = job_in_text job (properties_of bytes)
 
 -- where the volume tells, this is what the job's file gives
 abbrev pub FileGives : List ℕ → Option Disk → Read → Type 0
-FileGives job disk r = IfSome disk (λ d. job_in_file job (contents_at d.files (job_file job)) ≡ r)
+FileGives job disk r = IfSome disk (λ d. read_of_file job (contents_at d.files (job_file job)) ≡ r)

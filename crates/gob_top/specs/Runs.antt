@@ -12,7 +12,7 @@ use Rattle.gob_run.specs.declared.fault.RunFault.TheVariants.{Damaged, Shrunk, F
 use Rattle.gob_state.specs.Committed.{judged_by, verdicts_in}
 use Rattle.gob_texts.specs.Refusals as texts
 use Rattle.gob_texts.specs.Report.{report_of, run_status}
-use Rattle.gob_top.specs.Answers.{Tells, Told, refused}
+use Rattle.gob_top.specs.Answers.{Tells, Told, refusal_told}
 use Rattle.gob_top.specs.Jobs.{FileGives}
 use Rattle.gob_top.specs.World.{StaysPut}
 
@@ -31,17 +31,17 @@ run_told job (Ok out) = (
   run_status (verdicts_in out.results),
   report_of job.name job.policy out.too_long (judged_by out.units out.results) out.committed out.after,
 )
-run_told job (Err fault) = refused (run_refusal fault)
+run_told job (Err fault) = refusal_told (run_refusal fault)
 
 -- each answer with its cause
 pub data RunTold (job : List ℕ) (old new : World) (t : Told) : Type 0 where
   -- the job's file gives no job, and nothing was done
-  refusal : (r : texts.Refusal) → FileGives job old.disk (Err r) → Tells (refused r) t → new ≡ old
+  refusal : (r : texts.Refusal) → FileGives job old.disk (Err r) → Tells (refusal_told r) t → new ≡ old
       → RunTold job old new t
   -- it can't be read, or not held
-  failure : Tells (refused texts.volume_fault) t → Rose old.volume_faults new.volume_faults → StaysPut old new
+  failure : Tells (refusal_told texts.volume_fault) t → Rose old.volume_faults new.volume_faults → StaysPut old new
       → RunTold job old new t
-  starved : t ≡ refused texts.memory → StaysPut old new → RunTold job old new t
+  starved : t ≡ refusal_told texts.memory → StaysPut old new → RunTold job old new t
   -- it gives this job, which had its run, in which these turns failed
   ran : (j : Job) (entries : Table (List ℕ)) → FileGives job old.disk (Ok (entries, j)) → IsJob job j
       → (failing : List ℕ) (a : Answer) → RunAnswered j failing a old new → Tells (run_told j a) t

@@ -1,6 +1,6 @@
 -- The devices of a call that leaves them alone.
 use Rattle.std.specs.Prelude.{◌≡◌}
-use Rattle.gob_run.specs.World.{GoesOn, World}
+use Rattle.gob_run.specs.World.{WorldGoesOn, World}
 
 -- no call was made of the source
 pub record NoSourceCall (old new : World) : Type 0 where
@@ -12,4 +12,4 @@ pub record NoSourceCall (old new : World) : Type 0 where
 pub record StaysPut (old new : World) : Type 0 where
   pub disk : new.disk ≡ old.disk
   pub source : NoSourceCall old new
-  pub goes_on : GoesOn old new
+  pub goes_on : WorldGoesOn old new

@@ -1,7 +1,7 @@
 //! What a command answers, and how that is delivered.
 ghost use Rattle.std.specs.Prelude.{◌≡◌, ◌≤◌, IfOk};
 ghost use Rattle.gob_report.specs.Refusals.{told_as};
-ghost use Rattle.gob_top.specs.Answers.{Delivered, Tells, refused};
+ghost use Rattle.gob_top.specs.Answers.{Delivered, Tells, refusal_told};
 ghost use Rattle.gob_top.specs.Made.{told_of, told_when_done};
 
 use crate::stopped::Stopped;
@@ -25,7 +25,7 @@ const NOT_WRITTEN: u8 = 7;
 
 /// What is told of a refusal.
 fn refuse(alloc: Global, refusal: &Refusal) -> Result<Report, NoMemory>
-    ensures { IfOk result (λ report. (report.status, report.text) ≡ refused (told_as refusal.now)) }
+    ensures { IfOk result (λ report. (report.status, report.text) ≡ refusal_told (told_as refusal.now)) }
 {
     let text = refusal_text(alloc, refusal)?;
     Ok(Report {

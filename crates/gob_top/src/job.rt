@@ -8,7 +8,7 @@ ghost use Rattle.gob_jobs.specs.Laws.{IsJob};
 ghost use Rattle.gob_report.specs.Refusals.{told_as};
 ghost use Rattle.gob_texts.specs.Refusals as texts;
 ghost use Rattle.gob_top.specs.Found.{NotFound, found_in};
-ghost use Rattle.gob_top.specs.Jobs.{FileGives, job_in_file};
+ghost use Rattle.gob_top.specs.Jobs.{FileGives, read_of_file};
 
 use crate::stopped::Stopped;
 use gob_job::{Job, read_job};
@@ -67,10 +67,10 @@ fn read_bytes<V: Volume>(alloc: Global, volume: &mut V, job: &str) -> Result<Vec
 
 // The job that the bytes of its file give.
 fn job_in_bytes(alloc: Global, job: &str, bytes: &[u8]) -> Result<JobFile, Stopped>
-    ensures found { IfOk result (λ file. job_in_file job.now (Some bytes.now) ≡ Ok (found_in file)) }
+    ensures found { IfOk result (λ file. read_of_file job.now (Some bytes.now) ≡ Ok (found_in file)) }
     ensures right { IfOk result (λ file. IsJob job.now (job_from file.job)) }
     ensures stopped { IfErr result (λ s. (told_as s.refusal ≡ texts.memory)
-        ⊎ (job_in_file job.now (Some bytes.now) ≡ Err (told_as s.refusal))) }
+        ⊎ (read_of_file job.now (Some bytes.now) ≡ Err (told_as s.refusal))) }
 {
     let props = read_props(alloc, bytes)?;
     let found = read_job(alloc, job, &props)?;

@@ -18,7 +18,7 @@ use Rattle.gob_stage.specs.Attempt.{AreThere}
 use Rattle.gob_stage.proofs.Held.{held_there}
 use Rattle.gob_task.specs.Task.{HoldsSent, IsWhole, TaskValue}
 use Rattle.gob_task.specs.Turn.{Devices, TurnDone, TurnRulesValue, TurnStopped, TurnTaken}
-use Rattle.gob_task.specs.Turn.{pull_of}
+use Rattle.gob_task.specs.Turn.{turn_pull}
 use Rattle.gob_task.specs.declared.fault.TurnFault.{TurnFault}
 use Rattle.gob_task.specs.declared.fault.TurnFault.TheVariants as turn_fault
 use Rattle.gob_task.specs.declared.task.Turn.{Turn}
@@ -66,7 +66,7 @@ task_there rules u i t supply (Some d) is =
 next_pull : (rules : TurnRulesValue) (u : WorkUnit) (i : ℕ) (p : Progress) (t : TaskValue) (supply : Option Supply)
     (disk : Option Disk) (job : Job) (s : Supply) (w : Waiting) → 0 < rules.piece → IsTaskOf rules u i t supply disk
     → StandsWhere rules u i p t → GoesBy rules job → waiting_for job s.held i u p ≡ w ∷ []
-    → first_pull w.left ≡ Some (pull_of rules.piece t)
+    → first_pull w.left ≡ Some (turn_pull rules.piece t)
 next_pull rules u i p t supply disk job s w some is at by waits =
     let unit = is.unit in
     let inside : length is.fed < t.unit.hi - t.unit.lo = is.stands.left in
@@ -90,16 +90,16 @@ pub stopped_told : (rules : TurnRulesValue) (u : WorkUnit) (i : ℕ) (p : Progre
     → TurnStopped rules t fault old mid → StoppedIsTold rules i u p old mid
 stopped_told rules u i p t turn_fault.Failed old mid some here stopped job s w by told waits =
     inr (
-      pull_of rules.piece t,
+      turn_pull rules.piece t,
       next_pull rules u i p t old.supply old.disk job s w some here.is here.at by waits,
-      pulled_told old.supply mid.supply s (pull_of rules.piece t) told stopped.2,
+      pulled_told old.supply mid.supply s (turn_pull rules.piece t) told stopped.2,
     )
 stopped_told rules u i p t turn_fault.Memory old mid some here stopped job s w by told waits = ⊎_elim
     (λ same. inl (same ∙ told))
     (λ more. inr (
-      pull_of rules.piece t,
+      turn_pull rules.piece t,
       next_pull rules u i p t old.supply old.disk job s w some here.is here.at by waits,
-      pulled_told old.supply mid.supply s (pull_of rules.piece t) told more,
+      pulled_told old.supply mid.supply s (turn_pull rules.piece t) told more,
     ))
     stopped
 
@@ -109,22 +109,22 @@ pub taken_told : (rules : TurnRulesValue) (u : WorkUnit) (i : ℕ) (p : Progress
 taken_told rules u i p t v r old mid new some here taken same job s w by told waits = ⊎_elim
     (λ fails. inl (same ∙ (fails.unpulled ∙ told)))
     (λ answer. inr (
-      pull_of rules.piece t,
+      turn_pull rules.piece t,
       next_pull rules u i p t old.supply old.disk job s w some here.is here.at by waits,
-      pulled_told old.supply new.supply s (pull_of rules.piece t) told (same ∙ answer.1.pulled),
+      pulled_told old.supply new.supply s (turn_pull rules.piece t) told (same ∙ answer.1.pulled),
     ))
     taken
 
 stopped_pulls : (rules : TurnRulesValue) (t : TaskValue) (fault : TurnFault) (old mid : Devices)
     → TurnStopped rules t fault old mid → AtMostOnePull old.supply mid.supply
-stopped_pulls rules t turn_fault.Failed old mid stopped = inr (pull_of rules.piece t, stopped.2)
+stopped_pulls rules t turn_fault.Failed old mid stopped = inr (turn_pull rules.piece t, stopped.2)
 stopped_pulls rules t turn_fault.Memory old mid stopped =
-    ⊎_elim (λ same. inl same) (λ more. inr (pull_of rules.piece t, more)) stopped
+    ⊎_elim (λ same. inl same) (λ more. inr (turn_pull rules.piece t, more)) stopped
 
 taken_pulls : (rules : TurnRulesValue) (t v : TaskValue) (r : Turn) (old mid : Devices)
     → TurnTaken rules t v r old mid → AtMostOnePull old.supply mid.supply
 taken_pulls rules t v r old mid taken =
-    ⊎_elim (λ fails. inl fails.unpulled) (λ answer. inr (pull_of rules.piece t, answer.1.pulled)) taken
+    ⊎_elim (λ fails. inl fails.unpulled) (λ answer. inr (turn_pull rules.piece t, answer.1.pulled)) taken
 
 -- ---- what stays
 

@@ -20,7 +20,7 @@ use Rattle.gob_meaning.specs.Results.{failed as verdict_failed, unless_stopped, 
 use Rattle.gob_ledger.specs.TurnLaws.{HaveBytes}
 use Rattle.gob_ledger.specs.Turns.{own_pulls, waiting_unit}
 use Rattle.gob_ledger.proofs.Members.{later_in, first_in}
-use Rattle.gob_sched.specs.CoreValue.{CoreValue, is_rising_below, started}
+use Rattle.gob_sched.specs.CoreValue.{CoreValue, is_rising_below, core_at_start}
 use Rattle.gob_sched.proofs.Rising.{rising_range}
 use Rattle.gob_task.specs.Task.{unit_length}
 use Rattle.gob_task.specs.Turn.{Devices, TurnRulesValue}
@@ -28,10 +28,10 @@ use Rattle.gob_turns.specs.declared.progress.Progress.{Progress}
 use Rattle.gob_turns.specs.declared.progress.Progress.TheVariants.{Waits, Ended}
 use Rattle.gob_turns.specs.Asked.{IsWorkedBy, MayHaveTurns}
 use Rattle.gob_turns.specs.Course.{HaveBegun, first_state, listed_from}
-use Rattle.gob_turns.specs.Standing.{IsJudged, StandsAs, all_ahead, all_failures, failures_of, gather}
+use Rattle.gob_turns.specs.Standing.{IsJudged, StandsAs, all_ahead, all_failures, failures_so_far, gather}
 use Rattle.gob_turns.specs.Standing.{number_for, turns_ahead, waiting_for}
 use Rattle.gob_turns.specs.Turning.{TurnsSoFar}
-use Rattle.gob_turns.specs.Underway.{AreUnderway, IsTold}
+use Rattle.gob_turns.specs.Underway.{AreUnderway, AreRunTurns}
 use Rattle.gob_turns.proofs.Having.{no_turn}
 use Rattle.gob_turns.proofs.Left.{own_left}
 
@@ -107,12 +107,12 @@ bounded n ahead few below =
 no_failures : (retries : ℕ) (us : List WorkUnit) → all_failures retries (map first_state us) ≡ 0
 no_failures retries [] = refl
 no_failures retries (u ∷ us) =
-    let sums = sum_by-cons (failures_of retries) (first_state u) (map first_state us) in
+    let sums = sum_by-cons (failures_so_far retries) (first_state u) (map first_state us) in
     let here = none u.listed in
     let later = no_failures retries us in
     omega (arith, sums, here, later)
   where
-    none : (b : Bool) → failures_of retries (cond b Waits gone) ≡ 0
+    none : (b : Bool) → failures_so_far retries (cond b Waits gone) ≡ 0
     none true = refl
     none false = refl
 
@@ -150,7 +150,7 @@ have_bytes rules turns units may u at listed = (may.pullable u at listed).bytes
 
 told_first : (rules : TurnRulesValue) (turns : TurnRules) (units : List WorkUnit) (job : Job) (s : Supply)
     (now : Option Supply) → MayHaveTurns rules turns units → IsWorkedBy rules turns job → now ≡ Some s
-    → IsTold job s units (map first_state units) 0 [] now
+    → AreRunTurns job s units (map first_state units) 0 [] now
 told_first rules turns units job s now may works told = record {
   had = [];
   so_far = subst (λ ws. TurnsSoFar job s.held units [] 0 [] ws) (waiting_from job s.held 0 units)
@@ -166,7 +166,7 @@ told_first rules turns units job s now may works told = record {
 at_first : (rules : TurnRulesValue) (turns : TurnRules) (units : List WorkUnit) (first : Devices)
     → MayHaveTurns rules turns units
     → AreUnderway rules turns units (listed_from 0 units) (map first_state units)
-    (started turns (length (listed_from 0 units))) 0 [] first first
+    (core_at_start turns (length (listed_from 0 units))) 0 [] first first
 at_first rules turns units first may =
     let listed : List ℕ = listed_from 0 units in
     let none = no_failures rules.max_retries units in
@@ -197,10 +197,10 @@ pub begins : (rules : TurnRulesValue) (turns : TurnRules) (units : List WorkUnit
     → AreUnderway rules turns units listed states core k [] first first
 begins rules turns units listed states core k first may begun =
     let a = at_first rules turns units first may in
-    let b = subst (λ l. AreUnderway rules turns units l (map first_state units) (started turns
+    let b = subst (λ l. AreUnderway rules turns units l (map first_state units) (core_at_start turns
     (length l)) 0 [] first first)
     (sym begun.places) a in
-    let c = subst (λ s. AreUnderway rules turns units listed s (started turns (length listed)) 0 [] first first)
+    let c = subst (λ s. AreUnderway rules turns units listed s (core_at_start turns (length listed)) 0 [] first first)
     (sym begun.all) b in
     let d = subst (λ x. AreUnderway rules turns units listed states x 0 [] first first) (sym begun.begins) c in
     subst (λ n. AreUnderway rules turns units listed states core n [] first first) (sym begun.none) d

@@ -56,7 +56,7 @@ use Rattle.gob_task.specs.Task.{name_in, unit_sends}
 use Rattle.gob_task.specs.Turn.{Devices, TurnRulesValue}
 use Rattle.gob_turns.specs.Asked.{MayHaveTurns}
 use Rattle.gob_turns.specs.Standing.{HasResult, results_in}
-use Rattle.gob_turns.specs.Taken.{AreCommittable, IsStagedPair, all_pairs, pairs_in}
+use Rattle.gob_turns.specs.Taken.{AreCommittable, IsStagedPair, all_moves, moves_in}
 use Rattle.gob_turns.proofs.Ending.{HaveEnded}
 use Rattle.gob_turns.proofs.Picking.{contains_at}
 use Rattle.gob_turns.specs.declared.progress.Progress.{Progress}
@@ -117,7 +117,7 @@ good_listed plan u bytes n ws is = cases u.listed refl is
     cases false e is = absurd (let no : good n ws ≡ failed Gone = is in cc)
 
 file_of : (rules : TurnRulesValue) (u : WorkUnit) (i : ℕ) (supply : Option Supply) (disk : Option Disk) (r : UnitResult)
-    → HasResult rules u i supply disk r → (p : List ℕ × List ℕ) → Contains (pairs_in r) p → IsFileOf rules u i p
+    → HasResult rules u i supply disk r → (p : List ℕ × List ℕ) → Contains (moves_in r) p → IsFileOf rules u i p
 file_of rules u i supply disk (unit_result.Failed c) is p at = none_in p at
 file_of rules u i supply disk (unit_result.Good n ws files) is p at =
     let found = in_map pair_of files p at in
@@ -235,9 +235,9 @@ record IsAmongFiles (rules : TurnRulesValue) (i : ℕ) (us : List WorkUnit) (p :
 
 among_files : (rules : TurnRulesValue) (supply : Option Supply) (disk : Option Disk) (i : ℕ) (us : List WorkUnit)
     (rs : List UnitResult) → length rs ≡ length us → AllStand rules supply disk i us rs
-    → (p : List ℕ × List ℕ) → Contains (all_pairs rs) p → IsAmongFiles rules i us p
+    → (p : List ℕ × List ℕ) → Contains (all_moves rs) p → IsAmongFiles rules i us p
 among_files rules supply disk i us rs long all p at =
-    let found = in_flat_map pairs_in rs p at in
+    let found = in_flat_map moves_in rs p at in
     let r : UnitResult = found.0 in
     let here = got rs r found.1 in
     let below = slice_get_within rs here.0 r here.1 in
@@ -308,14 +308,14 @@ froms_are [] = refl
 froms_are (f ∷ fs) = ap (λ ns. f.from ∷ ns) (froms_are fs)
 
 tos_of : (rules : TurnRulesValue) (u : WorkUnit) (i : ℕ) (supply : Option Supply) (disk : Option Disk) (r : UnitResult)
-    → HasResult rules u i supply disk r → IsDistinct bytes_eq (map (λ p. p.1) (pairs_in r))
+    → HasResult rules u i supply disk r → IsDistinct bytes_eq (map (λ p. p.1) (moves_in r))
 unfolding IsDistinct
 tos_of rules u i supply disk (unit_result.Failed c) is = tt
 tos_of rules u i supply disk (unit_result.Good n ws files) is =
     subst (IsDistinct bytes_eq) (sym (tos_are files)) (own_apart files is.files.order)
 
 froms_of : (rules : TurnRulesValue) (u : WorkUnit) (i : ℕ) (supply : Option Supply) (disk : Option Disk)
-    (r : UnitResult) → HasResult rules u i supply disk r → IsDistinct bytes_eq (map (λ p. p.0) (pairs_in r))
+    (r : UnitResult) → HasResult rules u i supply disk r → IsDistinct bytes_eq (map (λ p. p.0) (moves_in r))
 unfolding IsDistinct
 froms_of rules u i supply disk (unit_result.Failed c) is = tt
 froms_of rules u i supply disk (unit_result.Good n ws files) is =
@@ -372,7 +372,7 @@ tos_differ rules u v i j p q few proper proper_v ordered ordered_v apart f g e =
 
 distinct_tos : (rules : TurnRulesValue) (supply : Option Supply) (disk : Option Disk) (i : ℕ) (us : List WorkUnit)
     (rs : List UnitResult) → length rs ≡ length us → AreApart rules us → AllStand rules supply disk i us rs
-    → IsDistinct bytes_eq (map (λ p. p.1) (all_pairs rs))
+    → IsDistinct bytes_eq (map (λ p. p.1) (all_moves rs))
 unfolding IsDistinct
 distinct_tos rules supply disk i us [] long are all = tt
 distinct_tos rules supply disk i [] (r ∷ rs) long are all = absurd (omega (arith, long))
@@ -380,12 +380,12 @@ distinct_tos rules supply disk i (u ∷ us) (r ∷ rs) long are all =
     let here : HasResult rules u i supply disk r =
     subst (λ n. HasResult rules u n supply disk r) (let e : i + 0 ≡ i = omega arith in e) (all 0 u r refl refl) in
     let later = stand_later rules supply disk i u us r rs all in
-    subst (IsDistinct bytes_eq) (sym (map-append (λ (p : List ℕ × List ℕ). p.1) (pairs_in r) (all_pairs rs)))
-    (distinct_join (map (λ p. p.1) (pairs_in r)) (map (λ p. p.1) (all_pairs rs)) (tos_of rules u i supply disk r here)
+    subst (IsDistinct bytes_eq) (sym (map-append (λ (p : List ℕ × List ℕ). p.1) (moves_in r) (all_moves rs)))
+    (distinct_join (map (λ p. p.1) (moves_in r)) (map (λ p. p.1) (all_moves rs)) (tos_of rules u i supply disk r here)
     (distinct_tos rules supply disk (i + 1) us rs (omega (arith, long)) (apart_later rules u us are) later)
     (λ x y at_x at_y e.
-    let p = in_map (λ (p : List ℕ × List ℕ). p.1) (pairs_in r) x at_x in
-    let q = in_map (λ (p : List ℕ × List ℕ). p.1) (all_pairs rs) y at_y in
+    let p = in_map (λ (p : List ℕ × List ℕ). p.1) (moves_in r) x at_x in
+    let q = in_map (λ (p : List ℕ × List ℕ). p.1) (all_moves rs) y at_y in
     let f = file_of rules u i supply disk r here p.0 p.1 in
     let g = among_files rules supply disk (i + 1) us rs (omega (arith, long)) later q.0 q.1 in
     let among = contains_at us g.at g.unit g.of_unit in
@@ -413,7 +413,7 @@ froms_differ rules u v i j p q small small_j apart f g e =
 
 distinct_froms : (rules : TurnRulesValue) (supply : Option Supply) (disk : Option Disk) (i : ℕ) (us : List WorkUnit)
     (rs : List UnitResult) → length rs ≡ length us → i + length us < 2 ^ 32 → AllStand rules supply disk i us rs
-    → IsDistinct bytes_eq (map (λ p. p.0) (all_pairs rs))
+    → IsDistinct bytes_eq (map (λ p. p.0) (all_moves rs))
 unfolding IsDistinct
 distinct_froms rules supply disk i us [] long few all = tt
 distinct_froms rules supply disk i [] (r ∷ rs) long few all = absurd (omega (arith, long))
@@ -421,12 +421,12 @@ distinct_froms rules supply disk i (u ∷ us) (r ∷ rs) long few all =
     let here : HasResult rules u i supply disk r =
     subst (λ n. HasResult rules u n supply disk r) (let e : i + 0 ≡ i = omega arith in e) (all 0 u r refl refl) in
     let later = stand_later rules supply disk i u us r rs all in
-    subst (IsDistinct bytes_eq) (sym (map-append (λ (p : List ℕ × List ℕ). p.0) (pairs_in r) (all_pairs rs)))
-    (distinct_join (map (λ p. p.0) (pairs_in r)) (map (λ p. p.0) (all_pairs rs)) (froms_of rules u i supply disk r here)
+    subst (IsDistinct bytes_eq) (sym (map-append (λ (p : List ℕ × List ℕ). p.0) (moves_in r) (all_moves rs)))
+    (distinct_join (map (λ p. p.0) (moves_in r)) (map (λ p. p.0) (all_moves rs)) (froms_of rules u i supply disk r here)
     (distinct_froms rules supply disk (i + 1) us rs (omega (arith, long)) (omega (arith, few)) later)
     (λ x y at_x at_y e.
-    let p = in_map (λ (p : List ℕ × List ℕ). p.0) (pairs_in r) x at_x in
-    let q = in_map (λ (p : List ℕ × List ℕ). p.0) (all_pairs rs) y at_y in
+    let p = in_map (λ (p : List ℕ × List ℕ). p.0) (moves_in r) x at_x in
+    let q = in_map (λ (p : List ℕ × List ℕ). p.0) (all_moves rs) y at_y in
     let f = file_of rules u i supply disk r here p.0 p.1 in
     let g = among_files rules supply disk (i + 1) us rs (omega (arith, long)) later q.0 q.1 in
     let within = slice_get_within us g.at g.unit g.of_unit in
@@ -545,7 +545,7 @@ counted_of rules u i supply disk (unit_result.Good n ws files) c few is counts =
     (proper_counts rules.plan (unit_fold rules.plan u.lo is.bytes) few)
 
 there_of : (rules : TurnRulesValue) (u : WorkUnit) (i : ℕ) (supply : Option Supply) (d : Disk) (r : UnitResult)
-    (p : List ℕ × List ℕ) → HasResult rules u i supply (Some d) r → Contains (pairs_in r) p → IsSome (d.files p.0)
+    (p : List ℕ × List ℕ) → HasResult rules u i supply (Some d) r → Contains (moves_in r) p → IsSome (d.files p.0)
 there_of rules u i supply d (unit_result.Failed c) p is at = none_in p at
 there_of rules u i supply d (unit_result.Good n ws files) p is at =
     let found = in_map pair_of files p at in
@@ -577,7 +577,7 @@ are_committable rules turns units states losses first now results may ended same
       ordered = λ u at listed. (may.pullable u at listed).bytes;
     }
 
-    fine : (p : List ℕ × List ℕ) → Contains (all_pairs rs) p → IsFinePair rules.job p
+    fine : (p : List ℕ × List ℕ) → Contains (all_moves rs) p → IsFinePair rules.job p
     fine p at =
         let f = among_files rules now.supply now.disk 0 units rs ended.number all p at in
         let within = slice_get_within units f.at f.unit f.of_unit in
@@ -594,10 +594,10 @@ are_committable rules turns units states losses first now results may ended same
         (here.0, unit.0, ended.stand here.0 unit.0 r unit.1 here.1)
 
     there : (o : Option Disk) → now.disk ≡ o
-        → IfSome o (λ d. (p : List ℕ × List ℕ) → Contains (all_pairs rs) p → IsSome (d.files p.0))
+        → IfSome o (λ d. (p : List ℕ × List ℕ) → Contains (all_moves rs) p → IsSome (d.files p.0))
     there None is = tt
     there (Some d) is = λ p at.
-        let found = in_flat_map pairs_in rs p at in
+        let found = in_flat_map moves_in rs p at in
         let unit = unit_at found.0 found.1 in
         there_of rules unit.1 unit.0 now.supply d found.0 p
         (subst (λ o. HasResult rules unit.1 unit.0 now.supply o found.0) is unit.2) found.2
@@ -606,8 +606,8 @@ are_committable rules turns units states losses first now results may ended same
     committable = record {
       number = ended.number;
       moves = record {
-        each = moves_fit rules.job (all_pairs rs) (λ p at. (fine p at).fits);
-        differ = names_distinct rules.job (all_pairs rs) (λ p at. (fine p at).pair)
+        each = moves_fit rules.job (all_moves rs) (λ p at. (fine p at).fits);
+        differ = names_distinct rules.job (all_moves rs) (λ p at. (fine p at).pair)
             (distinct_froms rules now.supply now.disk 0 units rs ended.number
             (let few = may.few in omega (arith, few)) all)
             (distinct_tos rules now.supply now.disk 0 units rs ended.number are all);

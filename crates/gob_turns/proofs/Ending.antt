@@ -27,11 +27,11 @@ use Rattle.gob_turns.specs.declared.progress.Progress.{Progress}
 use Rattle.gob_turns.specs.declared.progress.Progress.TheVariants.{Waits, Runs, Ended}
 use Rattle.gob_turns.specs.declared.progress.Step.{Step}
 use Rattle.gob_turns.specs.Asked.{AreHeld, IsWorkedBy, MayHaveTurns}
-use Rattle.gob_turns.specs.Standing.{StandsAs, all_failures, all_waiting, failures_of, gather}
+use Rattle.gob_turns.specs.Standing.{StandsAs, all_failures, all_waiting, failures_so_far, gather}
 use Rattle.gob_turns.specs.Standing.{number_for, open_numbers, results_in, waiting_for}
 use Rattle.gob_turns.specs.Taken.{AreFirstPulls, given_up_in}
 use Rattle.gob_turns.specs.Turning.{GoesOnFrom, HasTurn, TurnsSoFar, most_turns, with_left}
-use Rattle.gob_turns.specs.Underway.{AreUnderway, GoesBy, HasTurned, IsLeft, IsPicked, IsTold}
+use Rattle.gob_turns.specs.Underway.{AreUnderway, GoesBy, HasTurned, IsLeft, IsPicked, AreRunTurns}
 use Rattle.gob_turns.specs.Underway.{StoppedIsTold}
 use Rattle.gob_turns.proofs.Having.{behind_below, last_turn, next_turn}
 use Rattle.gob_turns.proofs.Picking.{contains_at, has_turn, one_waiting, waiting_numbers}
@@ -79,7 +79,7 @@ pulls_next_first job held units losses k had waiting w pull so has first =
         ap (λ o. pulls_in (record { unit = t.unit; pull = o; gave_up = t.gave_up } ∷ ts)) is
 
 left_told : (job : Job) (s : Supply) (units : List WorkUnit) (states : List Progress) (k : ℕ) (losses : List ℕ)
-    (now : Option Supply) (t : IsTold job s units states k losses now) (later : Option Supply)
+    (now : Option Supply) (t : AreRunTurns job s units states k losses now) (later : Option Supply)
     → later ≡ now → AreFirstPulls job s units losses later
 left_told job s units states k losses now t later same =
     let first = pulls_first job s.held units losses k t.had (all_waiting job s.held units states) t.so_far in
@@ -127,7 +127,7 @@ stopped_left rules turns units listed states core k losses first old now n may u
   told = λ job s works is held. pulls_of job s works (under.told job s works is held);
 }
   where
-    pulls_of : (job : Job) (s : Supply) → IsWorkedBy rules turns job → IsTold job s units states k losses old.supply
+    pulls_of : (job : Job) (s : Supply) → IsWorkedBy rules turns job → AreRunTurns job s units states k losses old.supply
         → AreFirstPulls job s units losses now.supply
     pulls_of job s works t =
         let waiting : List Waiting = all_waiting job s.held units states in
@@ -174,7 +174,7 @@ unnoted_left rules turns units listed states core k losses first old now n q ste
     }
   where
     pulls_of : (job : Job) (s : Supply) → IsWorkedBy rules turns job → AreHeld s.held units
-        → IsTold job s units states k losses old.supply → AreFirstPulls job s units losses now.supply
+        → AreRunTurns job s units states k losses old.supply → AreFirstPulls job s units losses now.supply
     pulls_of job s works held t =
         let found = has_turn job s.held units listed states core n k picked (under.by_rules ∙ sym works.by_turns)
         (under.place ∙ ap (λ (r : TurnRules). k % length r.schedule) (sym works.by_turns))
@@ -248,7 +248,7 @@ given_up_count : (retries : ℕ) (rs : List UnitResult)
     → all_failures retries (map (λ r. Ended r) rs) ≡ given_up_in rs * (retries + 1)
 given_up_count retries [] = let e : 0 ≡ 0 * (retries + 1) = omega arith in e
 given_up_count retries (r ∷ rs) =
-    let one = sum_by-cons (failures_of retries) (Ended r) (map (λ x. Ended x) rs) in
+    let one = sum_by-cons (failures_so_far retries) (Ended r) (map (λ x. Ended x) rs) in
     let two = sum_by-cons (λ (x : UnitResult). cond (is_fault (verdict_in x)) 1 0) r rs in
     let later = given_up_count retries rs in
     either (is_fault (verdict_in r)) one two later
@@ -335,7 +335,7 @@ pub record AllTold (job : Job) (s : Supply) (units : List WorkUnit) (losses : Li
 
 pub all_told : (rules : TurnRulesValue) (turns : TurnRules) (units : List WorkUnit) (states : List Progress) (k : ℕ)
     (losses : List ℕ) (first now : Devices) (job : Job) (s : Supply)
-    → HaveEnded rules turns units states losses first now → IsTold job s units states k losses now.supply
+    → HaveEnded rules turns units states losses first now → AreRunTurns job s units states k losses now.supply
     → AllTold job s units losses (results_in states) now.supply
 unfolding verdicts_of
 all_told rules turns units states k losses first now job s ended t =

@@ -25,9 +25,9 @@ use Rattle.gob_turns.specs.declared.progress.Progress.{Progress}
 use Rattle.gob_turns.specs.declared.progress.Progress.TheVariants.{Waits, Runs, Ended}
 use Rattle.gob_turns.specs.declared.progress.Step.{Step}
 use Rattle.gob_turns.specs.Asked.{MayHaveTurns}
-use Rattle.gob_turns.specs.Standing.{IsJudged, StandsAs, all_waiting, failures_of}
+use Rattle.gob_turns.specs.Standing.{IsJudged, StandsAs, all_waiting, failures_so_far}
 use Rattle.gob_turns.specs.Standing.{is_open, number_for, open_numbers, waiting_for}
-use Rattle.gob_turns.specs.Underway.{AreUnderway, HasTurned, IsJudgedNow, IsPicked, IsTold, IsTurnOf, KeepsOthers}
+use Rattle.gob_turns.specs.Underway.{AreUnderway, HasTurned, IsJudgedNow, IsPicked, AreRunTurns, IsTurnOf, KeepsOthers}
 use Rattle.gob_turns.specs.Underway.{core_after}
 use Rattle.gob_turns.specs.Turning.{HasTurn, TurnsSoFar, with_left}
 use Rattle.gob_turns.proofs.Having.{one_failure, one_more}
@@ -142,8 +142,8 @@ pub told_more : (units : List WorkUnit) (listed : List ℕ) (states : List Progr
     → ((t : Supply) (w : Waiting) → t.held ≡ s.held → old ≡ Some t
     → waiting_for job t.held picked.place picked.unit picked.state ≡ w ∷ []
     → IsTurnOf job t picked.place picked.unit w fails q now)
-    → IsTold job s units states k losses old
-    → IsTold job s units (set states picked.place q) (k + 1) (cond fails (losses ++ k ∷ []) losses) now
+    → AreRunTurns job s units states k losses old
+    → AreRunTurns job s units (set states picked.place q) (k + 1) (cond fails (losses ++ k ∷ []) losses) now
 told_more units listed states core k losses n q fails old now job s some rules place left picked turned told =
     let held : Held = s.held in
     let waiting : List Waiting = all_waiting job held units states in
@@ -286,11 +286,11 @@ one_step rules turns units listed states core k losses first old new n q step ma
     picked.of_state in
     let fewer = turned.fewer in
     let ahead = under.ahead in
-    let sums = sum_by-set (failures_of rules.max_retries) states place q picked.state in_states in
+    let sums = sum_by-set (failures_so_far rules.max_retries) states place q picked.state in_states in
     let its : get_or states place picked.state ≡ picked.state =
     get_or_from_slice_get states place picked.state picked.state picked.of_state in
-    let same_failures : failures_of rules.max_retries (get_or states place picked.state)
-    ≡ failures_of rules.max_retries picked.state = ap (failures_of rules.max_retries) its in
+    let same_failures : failures_so_far rules.max_retries (get_or states place picked.state)
+    ≡ failures_so_far rules.max_retries picked.state = ap (failures_so_far rules.max_retries) its in
     let listed_unit : picked.unit.listed ≡ true =
     open_listed rules picked.unit place picked.state old picked.may
     (under.stand place picked.unit picked.state picked.of_unit picked.of_state) in

@@ -14,7 +14,7 @@ use Rattle.gob_meaning.specs.Fold.{deliveries_of, sent_to, unit_fold}
 use Rattle.gob_meaning.specs.Items.{Target}
 use Rattle.gob_meaning.specs.Job.{Job}
 use Rattle.gob_meaning.specs.Results.{verdict_of}
-use Rattle.gob_ledger.specs.Expected.{IsPublished, bytes_in}
+use Rattle.gob_ledger.specs.Expected.{IsPublished, bytes_of_range}
 use Rattle.gob_ledger.specs.Next.{Judged, is_good}
 use Rattle.gob_ledger.specs.Turns.{pulls_in, turns_of}
 use Rattle.gob_ledger.specs.Units.{span_of}
@@ -28,7 +28,7 @@ use Rattle.gob_task.specs.Turn.{Devices, TurnRulesValue}
 use Rattle.gob_turns.specs.declared.progress.Progress.{Progress}
 use Rattle.gob_turns.specs.Asked.{AreHeld, IsWorkedBy}
 use Rattle.gob_turns.specs.Standing.{HasResult, IsGoodUnit, results_in}
-use Rattle.gob_turns.specs.Taken.{AllGiven, AllStaged, AreResults, pairs_in}
+use Rattle.gob_turns.specs.Taken.{AllGiven, AllStaged, AreResults, moves_in}
 use Rattle.gob_turns.specs.Underway.{AreUnderway}
 use Rattle.gob_turns.proofs.Ending.{AllTold, HaveEnded, all_told}
 
@@ -45,9 +45,9 @@ good_result rules u i supply disk (unit_result.Failed c) is good = absurd (let n
 -- where a unit has the bytes that it was given, its files are staged for what it makes
 stages : (rules : TurnRulesValue) (job : Job) (held : Held) (u : WorkUnit) (i : ℕ) (r : UnitResult)
     (supply : Option Supply) (disk : Option Disk) (m : Files) → job.name ≡ rules.job → job.plan ≡ rules.plan
-    → (unit : IsGoodUnit rules u i r supply disk) → unit.bytes ≡ bytes_in held u.part (span_of u)
+    → (unit : IsGoodUnit rules u i r supply disk) → unit.bytes ≡ bytes_of_range held u.part (span_of u)
     → HoldCleanly rules.plan u rules.job (unit_sends rules.plan u unit.bytes) (staged_in r) m
-    → StagedFor job held ((u, verdict_in r) ∷ []) m (pairs_in r)
+    → StagedFor job held ((u, verdict_in r) ∷ []) m (moves_in r)
 stages rules job held u i r supply disk m name plan unit same holds = record { made = made; all = all }
   where
     j : Judged
@@ -59,7 +59,7 @@ stages rules job held u i r supply disk m name plan unit same holds = record { m
     Published : List ℕ → List ℕ → Type 0
     Published = IsPublished job.name job.plan held (j ∷ [])
 
-    made : (p : List ℕ × List ℕ) → Contains (pairs_in r) p
+    made : (p : List ℕ × List ℕ) → Contains (moves_in r) p
         → (content : List ℕ) × (m p.0 ≡ Some (clean content)) × Published p.1 content
     made p there =
         let found = in_map pair_of (staged_in r) p there in
@@ -86,7 +86,7 @@ stages rules job held u i r supply disk m name plan unit same holds = record { m
         (content, from, published)
 
     all : (n content : List ℕ) → Published n content
-        → (p : List ℕ × List ℕ) × Contains (pairs_in r) p × (p.1 ≡ n) × (m p.0 ≡ Some (clean content))
+        → (p : List ℕ × List ℕ) × Contains (moves_in r) p × (p.1 ≡ n) × (m p.0 ≡ Some (clean content))
     all n content published =
         let its : j ≡ published.unit =
         ⊎_elim (λ e. e) (λ none. none_in published.unit none) (in_cases j [] published.unit published.of_units) in
@@ -107,8 +107,8 @@ stages rules job held u i r supply disk m name plan unit same holds = record { m
           holds f t file.1 some file.2 ∙ ap (λ c. Some (clean c)) sends,
         )
       where
-        bytes_here : (k : Judged) → j ≡ k → bytes ≡ bytes_in held k.0.part (span_of k.0)
-        bytes_here k e = same ∙ ap (λ (x : Judged). bytes_in held x.0.part (span_of x.0)) e
+        bytes_here : (k : Judged) → j ≡ k → bytes ≡ bytes_of_range held k.0.part (span_of k.0)
+        bytes_here k e = same ∙ ap (λ (x : Judged). bytes_of_range held x.0.part (span_of x.0)) e
 
 -- ---- all good units
 
@@ -146,8 +146,8 @@ all_given rules turns units states losses first now job name plan ended i u r of
   where
     held_there : (unit : IsGoodUnit rules u i r now.supply now.disk) (o : Option Disk)
         → IfSome o (λ d. HoldCleanly rules.plan u rules.job (unit_sends rules.plan u unit.bytes) (staged_in r) d.files)
-        → IfSome o (λ d. (held : Held) → bytes_in held u.part (span_of u) ≡ unit.bytes
-        → StagedFor job held ((u, verdict_in r) ∷ []) d.files (pairs_in r))
+        → IfSome o (λ d. (held : Held) → bytes_of_range held u.part (span_of u) ≡ unit.bytes
+        → StagedFor job held ((u, verdict_in r) ∷ []) d.files (moves_in r))
     held_there unit None holds = tt
     held_there unit (Some d) holds = λ held same.
         stages rules job held u i r now.supply now.disk d.files name plan unit (sym same) holds

@@ -28,13 +28,13 @@ use Rattle.gob_task.specs.Finish.{AreStagedFor, HoldCleanly, IsFinished}
 use Rattle.gob_task.specs.Task.{HasBegun, HoldsSent, IsWhole, StandsBehind, TaskValue, unit_length, unit_sends}
 use Rattle.gob_task.specs.Turn.{AnswerTaken, Devices, FailureTaken, IsFed, TurnRulesValue, TurnTaken}
 use Rattle.gob_task.specs.Turn.{asked_for, end_of_answer, ended, ends_with}
-use Rattle.gob_task.specs.Turn.{going, pull_of, retry}
+use Rattle.gob_task.specs.Turn.{going, turn_pull, retry}
 use Rattle.gob_task.specs.declared.task.Turn.{Turn}
 use Rattle.gob_task.specs.declared.task.Turn.TheVariants as turn
 use Rattle.gob_turns.specs.declared.progress.Progress.{Progress}
 use Rattle.gob_turns.specs.declared.progress.Progress.TheVariants.{Waits, Runs, Ended}
 use Rattle.gob_turns.specs.OneTurn.{GoesOnWith, HasFinished, IsNextTask, StandsThen, StandsWhere, fails_in}
-use Rattle.gob_turns.specs.Standing.{HasResult, IsTaskOf, StandsAs, failures_of, is_open, turns_ahead}
+use Rattle.gob_turns.specs.Standing.{HasResult, IsTaskOf, StandsAs, failures_so_far, is_open, turns_ahead}
 use Rattle.gob_turns.specs.Standing.{waiting_behind, waiting_for}
 use Rattle.gob_turns.specs.Underway.{GoesBy, IsTurnOf, TurnIsTold}
 use Rattle.gob_turns.proofs.Left.{PullsNext, bytes_join, bytes_long, ended_verdict, pull_at, pulls_next}
@@ -136,7 +136,7 @@ pub record GoesAs (rules : TurnRulesValue) (u : WorkUnit) (i : ℕ) (t : TaskVal
       → waiting_for job held i u q ≡ waiting_behind job held i u t.machine.seen t.failures ∷ []
   pub ahead : turns_ahead rules.max_retries u q
       ≡ (rules.max_retries - t.failures) * unit_length u + (unit_length u - t.machine.seen)
-  pub failures : failures_of rules.max_retries q ≡ t.failures
+  pub failures : failures_so_far rules.max_retries q ≡ t.failures
 
 goes_as : (rules : TurnRulesValue) (u : WorkUnit) (i : ℕ) (t : TaskValue) (supply : Option Supply)
     (disk : Option Disk) (q : Progress) → GoesOnWith t q → IsTaskOf rules u i t supply disk
@@ -176,7 +176,7 @@ pub record TurnFacts (rules : TurnRulesValue) (i : ℕ) (u : WorkUnit) (p q : Pr
     (old new : Devices) : Type 0 where
   pub stands : StandsAs rules u i new.supply new.disk q
   pub fewer : turns_ahead rules.max_retries u q < turns_ahead rules.max_retries u p
-  pub failures : failures_of rules.max_retries q ≤ failures_of rules.max_retries p + cond fails 1 0
+  pub failures : failures_so_far rules.max_retries q ≤ failures_so_far rules.max_retries p + cond fails 1 0
   pub cause : fails ≡ true → Rose old.source_faults new.source_faults
   pub told : TurnIsTold rules i u p q fails old new
 
@@ -254,13 +254,13 @@ failed_way rules i u p q t v (turn.Failed c) old mid new is at taken then supply
     (omega arith) in
     let after : turns_ahead rules.max_retries u q ≡ 0 = ap (turns_ahead rules.max_retries u) then.0 in
     let given : is_fault (failed c) ≡ true = ap is_fault bad.1 in
-    let once : failures_of rules.max_retries q ≡ rules.max_retries + 1 =
-    ap (failures_of rules.max_retries) then.0 ∙ ap (λ b. cond b (rules.max_retries + 1) 0) given in
+    let once : failures_so_far rules.max_retries q ≡ rules.max_retries + 1 =
+    ap (failures_so_far rules.max_retries) then.0 ∙ ap (λ b. cond b (rules.max_retries + 1) 0) given in
     let failing = at.failures in
     record {
       stands = subst (λ x. StandsAs rules u i new.supply new.disk x) (sym then.0) tt;
       fewer = omega (arith, some, after, before);
-      failures = once_more (is_fault (failed c)) (failures_of rules.max_retries q) (failures_of rules.max_retries p)
+      failures = once_more (is_fault (failed c)) (failures_so_far rules.max_retries q) (failures_so_far rules.max_retries p)
           rules.max_retries given once (omega (arith, failing, over));
       cause = λ e. subst (λ n. Rose old.source_faults n) (sym faults) taken.rose;
       told = λ job s w by told_old within waits.
@@ -347,7 +347,7 @@ is_answered rules i t v given r old mid now job s some is taken same by told wit
       next = pulls_next job s.held t.unit t.machine.seen a
           (waiting_behind job s.held i t.unit t.machine.seen t.failures) (omega (arith, piece, some)) (omega arith)
           (ap (λ m. min m (t.unit.hi - t.unit.lo - t.machine.seen)) (sym piece)) long;
-      pulled = same ∙ (taken.pulled ∙ ap (option_map (with_pull (pull_of rules.piece t))) told);
+      pulled = same ∙ (taken.pulled ∙ ap (option_map (with_pull (turn_pull rules.piece t))) told);
     }
 
 -- the task is fed with all that was asked for
@@ -363,7 +363,7 @@ fed_is rules i t v given r old mid is taken full =
     let joined = length-append is.fed given in
     let long : t.machine.seen + a ≡ length (is.fed ++ given) = omega arith in
     supply_stays (λ held. is.fed ++ given ≡ bytes_from held t.unit.part t.unit.lo (length (is.fed ++ given)))
-    old.supply mid.supply (inr (pull_of rules.piece t, taken.pulled))
+    old.supply mid.supply (inr (turn_pull rules.piece t, taken.pulled))
     (if_both (λ s. is.fed ≡ bytes_from s.held t.unit.part t.unit.lo (length is.fed))
     (λ s. given ≡ bytes_from s.held t.unit.part (t.unit.lo + t.machine.seen) a)
     (λ s. is.fed ++ given ≡ bytes_from s.held t.unit.part t.unit.lo (length (is.fed ++ given))) old.supply

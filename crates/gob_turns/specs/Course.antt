@@ -4,7 +4,7 @@ use Rattle.gob_plan.specs.declared.plan.TurnRules.{TurnRules}
 use Rattle.gob_plan.specs.declared.units.Cause.TheVariants.{Gone}
 use Rattle.gob_plan.specs.declared.units.Unit.{Unit as WorkUnit}
 use Rattle.gob_plan.specs.declared.units.UnitResult.TheVariants as unit_result
-use Rattle.gob_sched.specs.CoreValue.{CoreValue, started}
+use Rattle.gob_sched.specs.CoreValue.{CoreValue, core_at_start}
 use Rattle.gob_turns.specs.declared.progress.Progress.{Progress}
 use Rattle.gob_turns.specs.declared.progress.Progress.TheVariants.{Waits, Ended}
 
@@ -22,5 +22,5 @@ pub record HaveBegun (rules : TurnRules) (units : List WorkUnit) (listed : List 
     (core : CoreValue) (turn : ℕ) : Type 0 where
   pub all : states ≡ map first_state units
   pub places : listed ≡ listed_from 0 units
-  pub begins : core ≡ started rules (length listed)
+  pub begins : core ≡ core_at_start rules (length listed)
   pub none : turn ≡ 0

@@ -4,6 +4,6 @@ use Rattle.gob_task.specs.declared.fault.TurnFault.TheVariants as turn_fault
 use Rattle.gob_turns.specs.declared.fault.TurnsFault.{TurnsFault}
 use Rattle.gob_turns.specs.declared.fault.TurnsFault.TheVariants as turns_fault
 
-abbrev pub fault_of : TurnFault → TurnsFault
-fault_of turn_fault.Failed = turns_fault.Failed
-fault_of turn_fault.Memory = turns_fault.Memory
+abbrev pub turns_fault_of : TurnFault → TurnsFault
+turns_fault_of turn_fault.Failed = turns_fault.Failed
+turns_fault_of turn_fault.Memory = turns_fault.Memory

@@ -15,7 +15,7 @@ use Rattle.gob_task.specs.declared.task.Turn.{Turn}
 use Rattle.gob_task.specs.declared.task.Turn.TheVariants as turn
 use Rattle.gob_turns.specs.declared.progress.Progress.{Progress}
 use Rattle.gob_turns.specs.declared.progress.Progress.TheVariants.{Waits, Runs, Ended}
-use Rattle.gob_turns.specs.Standing.{failures_of, turns_ahead, waiting_behind, waiting_for}
+use Rattle.gob_turns.specs.Standing.{failures_so_far, turns_ahead, waiting_behind, waiting_for}
 
 -- what a source and a volume tell, and their counts of faults
 abbrev pub devices : Option Supply → ℕ → ℕ → Option Disk → ℕ → Devices
@@ -39,7 +39,7 @@ pub record StandsWhere (rules : TurnRulesValue) (u : WorkUnit) (i : ℕ) (p : Pr
       → waiting_for job held i u p ≡ waiting_behind job held i u t.machine.seen t.failures ∷ []
   pub ahead : turns_ahead rules.max_retries u p
       ≡ (rules.max_retries - t.failures) * unit_length u + (unit_length u - t.machine.seen)
-  pub failures : failures_of rules.max_retries p ≡ t.failures
+  pub failures : failures_so_far rules.max_retries p ≡ t.failures
 
 -- the pull of the turn failed
 abbrev pub fails_in : Turn → Bool

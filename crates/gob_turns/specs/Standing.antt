@@ -129,10 +129,10 @@ all_ahead retries (u ∷ us) [] = 0
 all_ahead retries (u ∷ us) (p ∷ ps) = turns_ahead retries u p + all_ahead retries us ps
 
 -- how often a unit failed, and once more than it may where it was given up
-abbrev pub failures_of : ℕ → Progress → ℕ
-failures_of retries Waits = 0
-failures_of retries (Runs t) = t.value.failures
-failures_of retries (Ended r) = if is_fault (verdict_in r) then retries + 1 else 0
+abbrev pub failures_so_far : ℕ → Progress → ℕ
+failures_so_far retries Waits = 0
+failures_so_far retries (Runs t) = t.value.failures
+failures_so_far retries (Ended r) = if is_fault (verdict_in r) then retries + 1 else 0
 
 abbrev pub all_failures : ℕ → List Progress → ℕ
-all_failures retries ps = sum_by (failures_of retries) ps
+all_failures retries ps = sum_by (failures_so_far retries) ps

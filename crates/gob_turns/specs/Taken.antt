@@ -12,7 +12,7 @@ use Rattle.gob_plan.specs.declared.units.Unit.{Unit as WorkUnit}
 use Rattle.gob_plan.specs.declared.units.UnitResult.{UnitResult}
 use Rattle.gob_meaning.specs.Job.{Job}
 use Rattle.gob_meaning.specs.Results.{verdict_of}
-use Rattle.gob_ledger.specs.Expected.{bytes_in}
+use Rattle.gob_ledger.specs.Expected.{bytes_of_range}
 use Rattle.gob_ledger.specs.Laws.{ProperCounts}
 use Rattle.gob_ledger.specs.Next.{counts_in, is_good}
 use Rattle.gob_ledger.specs.TurnLaws.{is_fault}
@@ -25,12 +25,12 @@ use Rattle.gob_sched.specs.CoreValue.{is_rising_below}
 use Rattle.gob_task.specs.Finish.{staged_in}
 
 -- a unit's files: where each is staged, and where it is to be published
-abbrev pub pairs_in : UnitResult → List (List ℕ × List ℕ)
-pairs_in r = map (λ f. (f.from, f.to)) (staged_in r)
+abbrev pub moves_in : UnitResult → List (List ℕ × List ℕ)
+moves_in r = map (λ f. (f.from, f.to)) (staged_in r)
 
 -- the files of all units
-abbrev pub all_pairs : List UnitResult → List (List ℕ × List ℕ)
-all_pairs results = flat_map pairs_in results
+abbrev pub all_moves : List UnitResult → List (List ℕ × List ℕ)
+all_moves results = flat_map moves_in results
 
 -- ---- over a source that tells
 
@@ -38,7 +38,7 @@ all_pairs results = flat_map pairs_in results
 abbrev pub AllStaged : Job → Held → List WorkUnit → List UnitResult → Files → Type 0
 AllStaged job held units results m = (i : ℕ) (u : WorkUnit) (r : UnitResult)
     → slice_get units i ≡ Some u → slice_get results i ≡ Some r → is_good (verdict_in r) ≡ true
-    → StagedFor job held ((u, verdict_in r) ∷ []) m (pairs_in r)
+    → StagedFor job held ((u, verdict_in r) ∷ []) m (moves_in r)
 
 -- the pulls are the first of the run in which these turns failed
 pub record AreFirstPulls (job : Job) (s : Supply) (units : List WorkUnit) (failed : List ℕ) (now : Option Supply)
@@ -66,8 +66,8 @@ pub record IsGiven (job : Job) (u : WorkUnit) (r : UnitResult) (disk : Option Di
   pub bytes : List ℕ
   pub whole : length bytes ≡ u.hi - u.lo
   pub verdict : verdict_in r ≡ verdict_of job.plan u bytes
-  pub staged : IfSome disk (λ d. (held : Held) → bytes_in held u.part (span_of u) ≡ bytes
-      → StagedFor job held ((u, verdict_in r) ∷ []) d.files (pairs_in r))
+  pub staged : IfSome disk (λ d. (held : Held) → bytes_of_range held u.part (span_of u) ≡ bytes
+      → StagedFor job held ((u, verdict_in r) ∷ []) d.files (moves_in r))
 
 -- each good unit was given bytes
 abbrev pub AllGiven : Job → List WorkUnit → List UnitResult → Option Disk → Type 0
@@ -85,10 +85,10 @@ pub record IsStagedPair (job : List ℕ) (p : List ℕ × List ℕ) : Type 0 whe
 pub record AreCommittable (job : List ℕ) (units : List WorkUnit) (results : List UnitResult) (new : Option Disk)
     : Type 0 where
   pub number : length results ≡ length units
-  pub moves : WellFormed job (moves_of (all_pairs results))
-  pub names : (p : List ℕ × List ℕ) → Contains (all_pairs results) p → IsStagedPair job p
+  pub moves : WellFormed job (moves_of (all_moves results))
+  pub names : (p : List ℕ × List ℕ) → Contains (all_moves results) p → IsStagedPair job p
   pub counted : (r : UnitResult) (c : Counts) → Contains results r → counts_in (verdict_in r) ≡ Some c → ProperCounts c
-  pub there : IfSome new (λ d. (p : List ℕ × List ℕ) → Contains (all_pairs results) p → IsSome (d.files p.0))
+  pub there : IfSome new (λ d. (p : List ℕ × List ℕ) → Contains (all_moves results) p → IsSome (d.files p.0))
 
 -- how many units were given up
 abbrev pub given_up_in : List UnitResult → ℕ

@@ -19,7 +19,7 @@ use Rattle.gob_state.specs.Committed.{verdict_in}
 use Rattle.gob_sched.specs.CoreValue.{CoreValue, after_end, after_turn, is_rising_below}
 use Rattle.gob_task.specs.Turn.{Devices, TurnRulesValue}
 use Rattle.gob_turns.specs.Asked.{AreHeld, IsWorkedBy}
-use Rattle.gob_turns.specs.Standing.{StandsAs, IsJudged, all_ahead, all_failures, all_waiting, failures_of}
+use Rattle.gob_turns.specs.Standing.{StandsAs, IsJudged, all_ahead, all_failures, all_waiting, failures_so_far}
 use Rattle.gob_turns.specs.Standing.{is_open, open_numbers, turns_ahead, waiting_for}
 use Rattle.gob_turns.specs.Taken.{AreFirstPulls, HasPulled}
 use Rattle.gob_turns.specs.Turning.{TurnsSoFar}
@@ -60,8 +60,8 @@ pub record HasTurned (rules : TurnRulesValue) (i : ℕ) (u : WorkUnit) (p q : Pr
   pub ended : step.ended ≡ not (is_open q)
   pub stands : StandsAs rules u i new.supply new.disk q
   pub fewer : turns_ahead rules.max_retries u q < turns_ahead rules.max_retries u p
-  pub failures : failures_of rules.max_retries q
-      ≤ failures_of rules.max_retries p + (if step.failed then 1 else 0)
+  pub failures : failures_so_far rules.max_retries q
+      ≤ failures_so_far rules.max_retries p + (if step.failed then 1 else 0)
   pub cause : step.failed ≡ true → Rose old.source_faults new.source_faults
   pub told : TurnIsTold rules i u p q step.failed old new
 
@@ -89,7 +89,7 @@ StoppedIsTold rules i u p old new = (job : Job) (s : Supply) (w : Waiting) → G
 -- ---- all units
 
 -- the turns that were had are those of the run, and these are its pulls
-pub record IsTold (job : Job) (s : Supply) (units : List WorkUnit) (states : List Progress) (k : ℕ) (failed : List ℕ)
+pub record AreRunTurns (job : Job) (s : Supply) (units : List WorkUnit) (states : List Progress) (k : ℕ) (failed : List ℕ)
     (now : Option Supply) : Type 0 where
   pub had : List TakenTurn
   pub so_far : TurnsSoFar job s.held units failed k had (all_waiting job s.held units states)
@@ -112,7 +112,7 @@ pub record AreUnderway (rules : TurnRulesValue) (turns : TurnRules) (units : Lis
   pub counted : RoseBy (length failed) old.source_faults new.source_faults
   pub failures : all_failures rules.max_retries states ≤ length failed
   pub told : (job : Job) (s : Supply) → IsWorkedBy rules turns job → old.supply ≡ Some s → AreHeld s.held units
-      → IsTold job s units states k failed new.supply
+      → AreRunTurns job s units states k failed new.supply
 
 -- what any number of turns keeps: nothing but staged files differs, a source tells of more pulls alone, and no count of
 -- faults falls

@@ -24,9 +24,9 @@ impl From<NoMemory> for TurnsFault {
 }
 
 impl From<TurnFault> for TurnsFault {
-    ghost use Rattle.gob_turns.specs.Faults.{fault_of};
+    ghost use Rattle.gob_turns.specs.Faults.{turns_fault_of};
 
-    ghost from_gives = { λ f g. g ≡ fault_of f };
+    ghost from_gives = { λ f g. g ≡ turns_fault_of f };
 
     fn from(fault: TurnFault) -> Self {
         match fault {

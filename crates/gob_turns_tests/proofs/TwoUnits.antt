@@ -12,14 +12,14 @@ use Rattle.gob_task.specs.Task.{IsPullable}
 use Rattle.gob_task.specs.Turn.{TurnRulesValue}
 use Rattle.gob_turns.specs.Asked.{MayHaveTurns}
 use Rattle.gob_turns_tests.specs.declared.kinds.Lines.TheVariants.{Plain}
-use Rattle.gob_turns_tests.specs.Given.{rules_with, turns_given, two_units, unit_to}
+use Rattle.gob_turns_tests.specs.Given.{rules_with, turns_given, given_units, unit_to}
 use Rattle.gob_turns_tests.specs.Plans.{plan_for}
 
 abbrev pub rules_given : TurnRulesValue
 rules_given = rules_with (plan_for Plain) 3
 
 each_of_two : (P : WorkUnit → Type 0) → P (unit_to (codes "a.log") 8) → P (unit_to (codes "b.log") 5)
-    → (u : WorkUnit) → Contains two_units u → P u
+    → (u : WorkUnit) → Contains given_units u → P u
 each_of_two P first second u at = ⊎_elim
     (λ e. subst P e first)
     (λ k. ⊎_elim (λ e. subst P e second) (λ none. none_in u none)
@@ -29,7 +29,7 @@ each_of_two P first second u at = ⊎_elim
 pullable : (part : List ℕ) (hi : ℕ) → part ≢ [] → 0 < hi → hi < 2 ^ 64 → IsPullable (unit_to part hi)
 pullable part hi named some small = record { listed = refl; named = named; bytes = some; end = small }
 
-may_given : MayHaveTurns rules_given turns_given two_units
+may_given : MayHaveTurns rules_given turns_given given_units
 unfolding IsDistinct is_utf8 chars lib.Utf8.encode
 may_given = record {
   named = refl;
@@ -50,7 +50,7 @@ may_given = record {
 }
 
 pub may_have : (rules : TurnRulesValue) (turns : TurnRules) (units : List WorkUnit) → rules ≡ rules_given
-    → turns ≡ turns_given → units ≡ two_units → MayHaveTurns rules turns units
+    → turns ≡ turns_given → units ≡ given_units → MayHaveTurns rules turns units
 may_have rules turns units a b c =
     subst (λ r. MayHaveTurns r turns units) (sym a)
     (subst (λ t. MayHaveTurns rules_given t units) (sym b)

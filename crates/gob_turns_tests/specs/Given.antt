@@ -17,5 +17,5 @@ turns_given = record { slots = 2; piece = 3; schedule = 1 ∷ 0 ∷ [] }
 abbrev pub unit_to : List ℕ → ℕ → WorkUnit
 unit_to part hi = record { part = part; lo = 0; hi = hi; fresh = true; listed = true }
 
-abbrev pub two_units : List WorkUnit
-two_units = unit_to (codes "a.log") 8 ∷ unit_to (codes "b.log") 5 ∷ []
+abbrev pub given_units : List WorkUnit
+given_units = unit_to (codes "a.log") 8 ∷ unit_to (codes "b.log") 5 ∷ []

@@ -30,8 +30,8 @@ format_for lines.Short = format.Lines
 format_for lines.Single = format.Lines
 format_for lines.Numbers = format.Csv
 
-abbrev pub column_of : Kind → List Column
-column_of kind = record { name = codes "line"; kind = kind } ∷ []
+abbrev pub only_column : Kind → List Column
+only_column kind = record { name = codes "line"; kind = kind } ∷ []
 
 -- a line of more than three bytes fails the unit
 abbrev pub policies_for : Lines → List PolicySpec
@@ -57,7 +57,7 @@ branches_for l =
 abbrev pub plan_for : Lines → Plan
 plan_for l = record {
   format = format_for l;
-  columns = column_of (kind_for l);
+  columns = only_column (kind_for l);
   skip_header = false;
   steps = [];
   skip_errors = 1;

@@ -4,8 +4,8 @@ use Rattle.gob_task.specs.declared.task.Turn.{Turn}
 use Rattle.gob_task.specs.declared.task.Turn.TheVariants as turn
 
 -- the task has no turn behind this one
-abbrev pub ends : Turn → Bool
-ends turn.Going = false
-ends turn.Retry = false
-ends (turn.Failed cause) = true
-ends turn.Whole = true
+abbrev pub is_last_turn : Turn → Bool
+is_last_turn turn.Going = false
+is_last_turn turn.Retry = false
+is_last_turn (turn.Failed cause) = true
+is_last_turn turn.Whole = true

@@ -2,7 +2,7 @@
 
 ghost use Rattle.std.specs.Prelude.{◌≡◌, true, IfOk};
 ghost use Rattle.gob_meaning.specs.Plans.{is_fitting};
-ghost use Rattle.gob_turns_tests.specs.Plans.{branches_for, column_of, format_for, kind_for};
+ghost use Rattle.gob_turns_tests.specs.Plans.{branches_for, only_column, format_for, kind_for};
 ghost use Rattle.gob_turns_tests.specs.Plans.{plan_for, policies_for, rules_for};
 
 use crate::kinds::Lines;
@@ -55,7 +55,7 @@ fn format_of(lines: Lines) -> Format
 }
 
 fn columns(alloc: Global, kind: Kind) -> Result<Columns, NoMemory>
-    ensures { IfOk result (λ columns. columns ≡ column_of kind) }
+    ensures { IfOk result (λ columns. columns ≡ only_column kind) }
 {
     let name = Text::from_str(alloc, "line")?;
     let mut list = List::new(alloc);

@@ -3,7 +3,7 @@
 ghost use Rattle.std.specs.Prelude.{◌≡◌, true, IfOk};
 ghost use Rattle.gob_meaning.specs.Plans.{is_fitting};
 ghost use Rattle.gob_turns.specs.Asked.{MayHaveTurns};
-ghost use Rattle.gob_turns_tests.specs.Given.{rules_with, turns_given, two_units};
+ghost use Rattle.gob_turns_tests.specs.Given.{rules_with, turns_given, given_units};
 ghost use Rattle.gob_turns_tests.specs.Plans.{plan_for};
 
 use crate::compare::{same_number, same_pull, same_truth};
@@ -207,7 +207,7 @@ fn turns(alloc: Global) -> Result<TurnRules, NoMemory>
 }
 
 fn units(alloc: Global) -> Result<Vec<Unit>, NoMemory>
-    ensures { IfOk result (λ v. v.items ≡ two_units) }
+    ensures { IfOk result (λ v. v.items ≡ given_units) }
 {
     let mut units = Vec::new(alloc);
     units.push(unit_of(alloc, "a.log", 8)?)?;

@@ -6,7 +6,7 @@ ghost use Rattle.gob_stage.specs.Attempt.{AreThere};
 ghost use Rattle.gob_task.specs.Bench.{FitsBench};
 ghost use Rattle.gob_task.specs.Task.{IsPullable};
 ghost use Rattle.gob_task.specs.Turn.{StandsAfter};
-ghost use Rattle.gob_turns_tests.specs.Turns.{ends};
+ghost use Rattle.gob_turns_tests.specs.Turns.{is_last_turn};
 ghost use Rattle.gob_volume.specs.MemVolume.{told_by};
 
 use crate::given::{first_bytes, rules_of, source_of};
@@ -122,7 +122,7 @@ fn last_turn(
 }
 
 fn is_last(turn: Turn) -> bool
-    ensures { result ≡ ends turn }
+    ensures { result ≡ is_last_turn turn }
 {
     match turn {
         Turn::Going => false,

@@ -3,18 +3,18 @@ use Rattle.std.proofs.Common.{◌≡◌, ℕ, ◌+◌, ◌≤◌, List, [], ◌�
 use Rattle.std.proofs.Common.{◌∙◌, take-append-drop, arith}
 use Rattle.std.proofs.lemmas.List.{take-append-le, drop-append-le, drop_all}
 use Rattle.gob_device.specs.Disk.{Files, no_files}
-use Rattle.gob_volume.specs.Calls.{map_after, maps_after, step_of, trail_of}
+use Rattle.gob_volume.specs.Calls.{map_after, maps_after, map_step_of, trail_of}
 use Rattle.gob_volume.specs.Replay.{IsReplayed}
 use Rattle.gob_volume.specs.declared.calls.Call.{Call}
 
 map-split : (m : Files) (front back : List Call) → map_after (map_after m front) back ≡ map_after m (front ++ back)
 map-split m [] back = refl
-map-split m (c ∷ front) back = map-split (step_of c m) front back
+map-split m (c ∷ front) back = map-split (map_step_of c m) front back
 
 maps-more : (m : Files) (calls : List Call) (call : Call) → maps_after m (calls ++ call ∷ []) ≡ maps_after m calls
-    ++ step_of call (map_after m calls) ∷ []
+    ++ map_step_of call (map_after m calls) ∷ []
 maps-more m [] call = refl
-maps-more m (c ∷ calls) call = ap (λ ms. step_of c m ∷ ms) (maps-more (step_of c m) calls call)
+maps-more m (c ∷ calls) call = ap (λ ms. map_step_of c m ∷ ms) (maps-more (map_step_of c m) calls call)
 
 -- the map after all calls, which is the one that is replayed
 replays : (m : Files) (calls : List Call) (since : ℕ) → IsReplayed m calls since → m ≡ map_after no_files calls
@@ -22,7 +22,7 @@ replays m calls since at = λ i name. at.agrees name i
 
 -- one call more is one map more
 pub trail-more : (m : Files) (calls : List Call) (since : ℕ) (call : Call) → IsReplayed m calls since
-    → trail_of (calls ++ call ∷ []) since ≡ trail_of calls since ++ step_of call m ∷ []
+    → trail_of (calls ++ call ∷ []) since ≡ trail_of calls since ++ map_step_of call m ∷ []
 unfolding trail_of
 trail-more m calls since call at =
     let base : Files = map_after no_files (take since calls) in
@@ -33,14 +33,14 @@ trail-more m calls since call at =
     (take-append-le since calls (call ∷ []) at.within)
     ∙ ap (maps_after base) (drop-append-le since calls (call ∷ []) at.within)
     ∙ maps-more base (drop since calls) call
-    ∙ ap (λ n. maps_after base (drop since calls) ++ step_of call n ∷ []) whole
+    ∙ ap (λ n. maps_after base (drop since calls) ++ map_step_of call n ∷ []) whole
 
 pub replayed-more : (m n : Files) (calls : List Call) (since : ℕ) (call : Call) → IsReplayed m calls since
-    → n ≡ step_of call m → IsReplayed n (calls ++ call ∷ []) since
+    → n ≡ map_step_of call m → IsReplayed n (calls ++ call ∷ []) since
 replayed-more m n calls since call at is = record {
   agrees = λ name.
       let all : n ≡ map_after no_files (calls ++ call ∷ []) = is
-      ∙ (ap (step_of call) (replays m calls since at) ∙ map-split no_files calls (call ∷ [])) in
+      ∙ (ap (map_step_of call) (replays m calls since at) ∙ map-split no_files calls (call ∷ [])) in
       λ i. all i name;
   within = omega (arith, at.within, length-append calls (call ∷ []));
 }

@@ -12,15 +12,15 @@ unfoldable pub after_put : List ℕ → List ℕ → Files → Files
 after_put name bytes m = put m name (Some (clean bytes))
 
 -- what a call makes of the map
-abbrev pub step_of : Call → Files → Files
-step_of (Create name) = after_create name
-step_of (Append name bytes) = after_append name bytes
-step_of (Sync name) = after_sync name
-step_of (Rename source target) = after_rename source target
-step_of (Remove name) = after_remove name
-step_of (Tear name) = after_tear name
-step_of (Put name bytes) = after_put name bytes
-step_of (Crash tail) = after_crash tail
+abbrev pub map_step_of : Call → Files → Files
+map_step_of (Create name) = after_create name
+map_step_of (Append name bytes) = after_append name bytes
+map_step_of (Sync name) = after_sync name
+map_step_of (Rename source target) = after_rename source target
+map_step_of (Remove name) = after_remove name
+map_step_of (Tear name) = after_tear name
+map_step_of (Put name bytes) = after_put name bytes
+map_step_of (Crash tail) = after_crash tail
 
 -- the file that a call needs is there
 abbrev pub CanBeDone : Call → Files → Type 0
@@ -36,12 +36,12 @@ CanBeDone (Crash tail) m = Unit {0}
 -- the map after these calls
 abbrev pub map_after : Files → List Call → Files
 map_after m [] = m
-map_after m (call ∷ calls) = map_after (step_of call m) calls
+map_after m (call ∷ calls) = map_after (map_step_of call m) calls
 
 -- the map after each of them
 abbrev pub maps_after : Files → List Call → List Files
 maps_after m [] = []
-maps_after m (call ∷ calls) = step_of call m ∷ maps_after (step_of call m) calls
+maps_after m (call ∷ calls) = map_step_of call m ∷ maps_after (map_step_of call m) calls
 
 -- of all calls from no files on, the maps after those that came behind the first so many
 unfoldable pub trail_of : List Call → ℕ → List Files

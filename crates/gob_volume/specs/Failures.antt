@@ -9,7 +9,7 @@ abbrev pub IsStopped : Failures → Type 0
 IsStopped f = IsDue f.planned ⊎ (f.fuse ≡ Some 0)
 
 -- a call was taken in, and is stopped where it is to fail
-pub record Takes (burn : ℕ → ℕ) (old new : Failures) (stops : Bool) : Type 0 where
+pub record TakesCall (burn : ℕ → ℕ) (old new : Failures) (stops : Bool) : Type 0 where
   pub stopped : IsTrue stops ↔ IsStopped old
   pub call : CountsCall old.planned new.planned
   pub fuse : new.fuse ≡ option_map burn old.fuse

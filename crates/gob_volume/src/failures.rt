@@ -2,7 +2,7 @@
 
 ghost use Rattle.std.specs.Prelude.{◌≡◌, ◌-◌, ◌↔◌, IsTrue, option_map};
 ghost use Rattle.gob_memory.specs.Planned.{calls_of, numbers_of};
-ghost use Rattle.gob_volume.specs.Failures.{Takes};
+ghost use Rattle.gob_volume.specs.Failures.{TakesCall};
 
 use gob_memory::{Counts, Planned};
 
@@ -31,14 +31,14 @@ impl Failures {
 
     /// Takes in a call that changes nothing, and says whether it is to fail.
     pub fn stops_read(&mut self) -> bool
-        ensures { Takes (λ left. left) self.old self.new result }
+        ensures { TakesCall (λ left. left) self.old self.new result }
     {
         self.planned.fails_next() || is_burnt(self.fuse)
     }
 
     /// Takes in a call that may change something, and says whether it is to fail.
     pub fn stops_change(&mut self) -> bool
-        ensures { Takes (λ left. left - 1) self.old self.new result }
+        ensures { TakesCall (λ left. left - 1) self.old self.new result }
     {
         let stops = self.stops_read();
         self.fuse = shorter(self.fuse);

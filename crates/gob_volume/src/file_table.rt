@@ -8,7 +8,7 @@ ghost use Rattle.gob_device.specs.Disk.{IsListing, clean, contents_at, no_files,
 ghost use Rattle.gob_device.specs.Disk.{after_append, after_rename, after_sync};
 ghost use Rattle.gob_memory.specs.Order.{IsInByteOrder-prop};
 ghost use Rattle.gob_memory.specs.Places.{StandsAt};
-ghost use Rattle.gob_volume.specs.Calls.{CanBeDone, step_of};
+ghost use Rattle.gob_volume.specs.Calls.{CanBeDone, map_step_of};
 ghost use Rattle.gob_volume.specs.Crashes.{after_crash, after_tear, image_of};
 ghost use Rattle.gob_volume.specs.Reads.{ReadsAt};
 
@@ -42,7 +42,7 @@ impl FileTable {
     #[tactic(auto, unfolding(gob_device::specs::Disk::after_create, gob_device::specs::Disk::after_remove, crate::specs::Calls::after_put))]
     pub fn apply(&mut self, call: &Call) -> Result<(), NoMemory>
         requires { CanBeDone call.now (map_of self.old) }
-        ensures ok { OnOk result (map_of self.new ≡ step_of call.now (map_of self.old)) }
+        ensures ok { OnOk result (map_of self.new ≡ map_step_of call.now (map_of self.old)) }
         ensures err { OnErr result (map_of self.new ≡ map_of self.old) }
     {
         match call {

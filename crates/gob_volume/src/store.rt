@@ -3,7 +3,7 @@
 ghost use Rattle.std.specs.Prelude.{◌≡◌, ◌≢◌, ◌++◌, ◌∷◌, ◌<◌, [], vec_capacity, vec_len, IsSome, OnErr, OnOk};
 ghost use Rattle.gob_device.specs.Disk.{after_append, after_change, after_create};
 ghost use Rattle.gob_device.specs.Disk.{after_remove, after_rename, after_sync, no_files};
-ghost use Rattle.gob_volume.specs.Calls.{CanBeDone, after_put, step_of};
+ghost use Rattle.gob_volume.specs.Calls.{CanBeDone, after_put, map_step_of};
 ghost use Rattle.gob_volume.specs.Crashes.{after_crash, after_tear};
 ghost use Rattle.gob_volume.specs.Maps.{map_of};
 ghost use Rattle.gob_volume.specs.Replay.{IsReplayed, IsReplayed-prop};
@@ -41,7 +41,7 @@ impl Store {
     // Does a call, and lists it.
     fn apply(&mut self, call: Call) -> Result<(), NoMemory>
         requires { CanBeDone call (disk_of self.old).files }
-        ensures ok { OnOk result (disk_of self.new ≡ after_change (step_of call) (disk_of self.old)) }
+        ensures ok { OnOk result (disk_of self.new ≡ after_change (map_step_of call) (disk_of self.old)) }
         ensures err { OnErr result (disk_of self.new ≡ disk_of self.old) }
     {
         make_room(&mut self.calls)?;

@@ -7,8 +7,8 @@ use Rattle.gob_device.proofs.Trail.{along_nothing, along_then}
 use Rattle.gob_recovery.specs.Commits.{OnlyBelow}
 use Rattle.gob_recovery.proofs.Commits.{below_then}
 use Rattle.gob_commit.specs.Going.{GroupEnds, GroupRises, LeadsToNext, LeavesStaging}
-use Rattle.gob_commit.specs.Groups.{ArePlaces, picked}
-use Rattle.gob_commit.specs.Staged.{AreThere, CanCommit, all_pairs}
+use Rattle.gob_commit.specs.Groups.{ArePlaces, picked_items}
+use Rattle.gob_commit.specs.Staged.{AreReadyToMove, CanCommit, all_pairs}
 use Rattle.gob_commit.proofs.Beginning.{nothing_along}
 use Rattle.gob_commit.proofs.Looping.{LoopOver, groups_at, loop_at, loop_broken, loop_can, loop_end}
 use Rattle.gob_commit.proofs.Looping.{loop_first}
@@ -83,7 +83,7 @@ commit_places-requires-clause-can g c =
     c.loop-places.invariant.so in
     let before = groups_at units results (take i vs) in
     let rest = groups_at units results (drop (i + 1) vs) in
-    subst (λ (ps : List ℕ). CanCommit rules c.loop-places.last (picked units ps) (picked results ps))
+    subst (λ (ps : List ℕ). CanCommit rules c.loop-places.last (picked_items units ps) (picked_items results ps))
     (sym c.as_slice.ensures.value)
     (loop_can rules l0 units results before rest v c.loop-places.last _ _ c.requires.can at)
 
@@ -108,7 +108,7 @@ commit_places-requires-clause-there g c =
     let before = groups_at units results (take i vs) in
     let rest = groups_at units results (drop (i + 1) vs) in
     subst (λ (ps : List ℕ). IfSome (g.V.Volume.disk c.loop-places.volume)
-    (λ d. AreThere rules.job.now (all_pairs (picked results ps)) d.files)) (sym c.as_slice.ensures.value)
+    (λ d. AreReadyToMove rules.job.now (all_pairs (picked_items results ps)) d.files)) (sym c.as_slice.ensures.value)
     (loop_there rules l0 units results before rest v c.loop-places.last _ _ c.requires.can at)
 
 pub returns-in_err-last-clause-along : goal.returns-in_err-last-clause-along
@@ -131,8 +131,8 @@ returns-in_err-last-clause-along g c =
     c.loop-places.invariant.so in
     let before = groups_at units results (take i vs) in
     let rest = groups_at units results (drop (i + 1) vs) in
-    let rises = subst (λ (ps : List ℕ). AddsMaps (GroupRises rules c.loop-places.last (picked units ps)
-    (picked results ps)) (g.V.Volume.disk c.loop-places.volume) (g.V.Volume.disk c.commit_places.new.volume))
+    let rises = subst (λ (ps : List ℕ). AddsMaps (GroupRises rules c.loop-places.last (picked_items units ps)
+    (picked_items results ps)) (g.V.Volume.disk c.loop-places.volume) (g.V.Volume.disk c.commit_places.new.volume))
     c.as_slice.ensures.value c.commit_places.ensures.rises in
     loop_broken rules l0 units results before rest v c.loop-places.last c.requires.can at rises
 
@@ -162,11 +162,11 @@ loop-places-preserved g c =
     record {
       so = loop_more rules l0 units results vs i v c.loop-places.last after (omega arith) c.places-item.is
           c.requires.can at
-          (subst (λ (ps : List ℕ). LeadsToNext rules c.loop-places.last (picked units ps) (picked results ps) after)
+          (subst (λ (ps : List ℕ). LeadsToNext rules c.loop-places.last (picked_items units ps) (picked_items results ps) after)
           c.as_slice.ensures.value c.in_ok-last.ensures.value)
-          (subst (λ (ps : List ℕ). AddsMaps (GroupEnds rules c.loop-places.last (picked units ps) (picked results ps)
+          (subst (λ (ps : List ℕ). AddsMaps (GroupEnds rules c.loop-places.last (picked_items units ps) (picked_items results ps)
           after) now new) c.as_slice.ensures.value c.in_ok-last.ensures.ok)
-          (subst (λ (ps : List ℕ). AddsMaps (LeavesStaging rules.job.now (all_pairs (picked results ps))) now new)
+          (subst (λ (ps : List ℕ). AddsMaps (LeavesStaging rules.job.now (all_pairs (picked_items results ps))) now new)
           c.as_slice.ensures.value c.in_ok-last.ensures.rest);
       below = along_then (OnlyBelow (under rules.job.now [])) (below_then (under rules.job.now []))
           c.loop-places.invariant.below c.commit_places.ensures.below;

@@ -2,8 +2,8 @@ use Rattle.std.proofs.Common.{◌≡◌, ◌∙◌, ◌<◌, All, List, sym, sub
 use Rattle.gob_device.specs.Disk.{AddsMaps}
 use Rattle.gob_plan.specs.declared.units.UnitResult.{UnitResult}
 use Rattle.gob_commit.specs.Going.{GroupEnds, GroupRises, LeadsToNext, LeavesStaging}
-use Rattle.gob_commit.specs.Groups.{picked}
-use Rattle.gob_commit.specs.Staged.{AreThere, CanCommit, all_pairs}
+use Rattle.gob_commit.specs.Groups.{picked_items}
+use Rattle.gob_commit.specs.Staged.{AreReadyToMove, CanCommit, all_pairs}
 use Rattle.gob_commit.proofs.Committing.{idle_rises}
 use Rattle.gob_commit.proofs.Looping.{both_moved}
 use Rattle.gob_commit.proofs.commits.commit_places.Goals as goal
@@ -14,18 +14,18 @@ results_at-requires g c =
 
 pub returns-in_err-group-clause-rises : goal.returns-in_err-group-clause-rises
 returns-in_err-group-clause-rises g c =
-    idle_rises c.args.rules.now c.args.loaded (picked c.args.units.now c.args.places.now)
-    (picked c.args.results.now c.args.places.now) _
+    idle_rises c.args.rules.now c.args.loaded (picked_items c.args.units.now c.args.places.now)
+    (picked_items c.args.results.now c.args.places.now) _
 
 pub returns-in_err-made-clause-rises : goal.returns-in_err-made-clause-rises
 returns-in_err-made-clause-rises g c =
-    idle_rises c.args.rules.now c.args.loaded (picked c.args.units.now c.args.places.now)
-    (picked c.args.results.now c.args.places.now) _
+    idle_rises c.args.rules.now c.args.loaded (picked_items c.args.units.now c.args.places.now)
+    (picked_items c.args.results.now c.args.places.now) _
 
 pub commit_group-requires-clause-can : goal.commit_group-requires-clause-can
 commit_group-requires-clause-can g c =
-    let us = picked c.args.units.now c.args.places.now in
-    let rs = picked c.args.results.now c.args.places.now in
+    let us = picked_items c.args.units.now c.args.places.now in
+    let rs = picked_items c.args.results.now c.args.places.now in
     let eu : c.as_slice.result.now ≡ us = c.as_slice.ensures ∙ c.in_ok-group.ensures in
     let er : c.as_slice-2.result.now ≡ rs = c.as_slice-2.ensures ∙ c.in_ok-made.ensures in
     let rules = c.args.rules.now in
@@ -34,20 +34,20 @@ commit_group-requires-clause-can g c =
 
 pub commit_group-requires-clause-there : goal.commit_group-requires-clause-there
 commit_group-requires-clause-there g c =
-    let us = picked c.args.units.now c.args.places.now in
-    let rs = picked c.args.results.now c.args.places.now in
+    let us = picked_items c.args.units.now c.args.places.now in
+    let rs = picked_items c.args.results.now c.args.places.now in
     let eu : c.as_slice.result.now ≡ us = c.as_slice.ensures ∙ c.in_ok-group.ensures in
     let er : c.as_slice-2.result.now ≡ rs = c.as_slice-2.ensures ∙ c.in_ok-made.ensures in
     let rules = c.args.rules.now in
     let l = c.args.loaded in
-    subst (λ (y : List UnitResult). IfSome (g.V.Volume.disk c.args.volume.now) (λ d. AreThere rules.job.now (all_pairs
+    subst (λ (y : List UnitResult). IfSome (g.V.Volume.disk c.args.volume.now) (λ d. AreReadyToMove rules.job.now (all_pairs
     y) d.files))
     (sym er) c.requires.there
 
 pub returns-in_err-after-clause-rises : goal.returns-in_err-after-clause-rises
 returns-in_err-after-clause-rises g c =
-    let us = picked c.args.units.now c.args.places.now in
-    let rs = picked c.args.results.now c.args.places.now in
+    let us = picked_items c.args.units.now c.args.places.now in
+    let rs = picked_items c.args.results.now c.args.places.now in
     let eu : c.as_slice.result.now ≡ us = c.as_slice.ensures ∙ c.in_ok-group.ensures in
     let er : c.as_slice-2.result.now ≡ rs = c.as_slice-2.ensures ∙ c.in_ok-made.ensures in
     let rules = c.args.rules.now in
@@ -57,8 +57,8 @@ returns-in_err-after-clause-rises g c =
 
 pub returns-clause-rises : goal.returns-clause-rises
 returns-clause-rises g c =
-    let us = picked c.args.units.now c.args.places.now in
-    let rs = picked c.args.results.now c.args.places.now in
+    let us = picked_items c.args.units.now c.args.places.now in
+    let rs = picked_items c.args.results.now c.args.places.now in
     let eu : c.as_slice.result.now ≡ us = c.as_slice.ensures ∙ c.in_ok-group.ensures in
     let er : c.as_slice-2.result.now ≡ rs = c.as_slice-2.ensures ∙ c.in_ok-made.ensures in
     let rules = c.args.rules.now in
@@ -68,8 +68,8 @@ returns-clause-rises g c =
 
 pub returns-clause-value : goal.returns-clause-value
 returns-clause-value g c =
-    let us = picked c.args.units.now c.args.places.now in
-    let rs = picked c.args.results.now c.args.places.now in
+    let us = picked_items c.args.units.now c.args.places.now in
+    let rs = picked_items c.args.results.now c.args.places.now in
     let eu : c.as_slice.result.now ≡ us = c.as_slice.ensures ∙ c.in_ok-group.ensures in
     let er : c.as_slice-2.result.now ≡ rs = c.as_slice-2.ensures ∙ c.in_ok-made.ensures in
     let rules = c.args.rules.now in
@@ -78,8 +78,8 @@ returns-clause-value g c =
 
 pub returns-clause-ok : goal.returns-clause-ok
 returns-clause-ok g c =
-    let us = picked c.args.units.now c.args.places.now in
-    let rs = picked c.args.results.now c.args.places.now in
+    let us = picked_items c.args.units.now c.args.places.now in
+    let rs = picked_items c.args.results.now c.args.places.now in
     let eu : c.as_slice.result.now ≡ us = c.as_slice.ensures ∙ c.in_ok-group.ensures in
     let er : c.as_slice-2.result.now ≡ rs = c.as_slice-2.ensures ∙ c.in_ok-made.ensures in
     let rules = c.args.rules.now in
@@ -89,8 +89,8 @@ returns-clause-ok g c =
 
 pub returns-clause-rest : goal.returns-clause-rest
 returns-clause-rest g c =
-    let us = picked c.args.units.now c.args.places.now in
-    let rs = picked c.args.results.now c.args.places.now in
+    let us = picked_items c.args.units.now c.args.places.now in
+    let rs = picked_items c.args.results.now c.args.places.now in
     let eu : c.as_slice.result.now ≡ us = c.as_slice.ensures ∙ c.in_ok-group.ensures in
     let er : c.as_slice-2.result.now ≡ rs = c.as_slice-2.ensures ∙ c.in_ok-made.ensures in
     let rules = c.args.rules.now in

@@ -4,7 +4,7 @@ use Rattle.std.specs.Str.{bytes_eq}
 use Rattle.gob_plan.specs.declared.units.Unit.{Unit as WorkUnit}
 use Rattle.gob_ledger.specs.Groups.{dataset_of}
 use Rattle.gob_state.specs.Committed.{judged_by}
-use Rattle.gob_commit.specs.Groups.{is_bad}
+use Rattle.gob_commit.specs.Groups.{is_bad_unit}
 use Rattle.gob_commit.proofs.Judging.{bad_end, bad_more, bad_put, good_stays}
 use Rattle.gob_commit.proofs.Pushing.{same_here}
 use Rattle.gob_commit.proofs.flags.bad_datasets.Goals as goal
@@ -12,7 +12,7 @@ use Rattle.gob_commit.proofs.flags.bad_datasets.Goals as goal
 pub loop-i-init : goal.loop-i-init
 loop-i-init c = λ q.
     ap (λ (ks : List (Bor (List ℕ))). list_any (λ (n : Bor (List ℕ)). bytes_eq q.now n.now) ks
-    || list_any (is_bad q.now) (judged_by c.args.units.now c.args.results.now)) c.new-bad.ensures.empty
+    || list_any (is_bad_unit q.now) (judged_by c.args.units.now c.args.results.now)) c.new-bad.ensures.empty
 
 pub loop-i-preserved-then-is_good : goal.loop-i-preserved-then-is_good
 loop-i-preserved-then-is_good c = λ q.

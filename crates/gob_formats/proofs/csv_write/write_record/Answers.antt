@@ -1,13 +1,13 @@
 use Rattle.std.proofs.Common.{◌≡◌, [], ◌∷◌, ◌++◌, length, ap, ◌∙◌, arith}
 use Rattle.std.proofs.lemmas.Result.{on_ok_weaker}
-use Rattle.gob_formats.specs.Fields.{body_of}
+use Rattle.gob_formats.specs.Fields.{record_body}
 use Rattle.gob_formats.proofs.Written.{nothing_added, something_added, blank_record, some_record}
 use Rattle.gob_formats.proofs.csv_write.write_record.Goals as goal
 
 pub returns-then-len-before-clause-ok : goal.returns-then-len-before-clause-ok
 returns-then-len-before-clause-ok c =
     let old = c.args.into.now.items in
-    let body = body_of c.args.values.now in
+    let body = record_body c.args.values.now in
     let grown = ap length c.in_ok-write_body.ensures.ok in
     let same : length (old ++ body) ≡ length old =
     omega (arith, c.args.into.now.ok.0, c.write_body.new.into.ok.0) in
@@ -19,7 +19,7 @@ returns-then-len-before-clause-ok c =
 pub returns-clause-ok : goal.returns-clause-ok
 returns-clause-ok c =
     let old = c.args.into.now.items in
-    let body = body_of c.args.values.now in
+    let body = record_body c.args.values.now in
     let grown = ap length c.in_ok-write_body.ensures.ok in
     let differ : length (old ++ body) ≡ length old → ⊥ =
     λ same. omega (arith, c.args.into.now.ok.0, c.write_body.new.into.ok.0) in

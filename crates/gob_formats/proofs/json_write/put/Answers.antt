@@ -4,7 +4,7 @@ use Rattle.std.specs.Ordering.{nat_cmp}
 use Rattle.std.specs.declared.cmp.Ordering.TheVariants.{Equal}
 use Rattle.std.specs.Cmp.Lexicographic.{slice_cmp}
 use Rattle.gob_formats.specs.declared.json_write.Place.{Place}
-use Rattle.gob_formats.specs.Members.{named, put_name}
+use Rattle.gob_formats.specs.Members.{named_place, put_name}
 use Rattle.gob_formats.proofs.Spelled.{put_at_equal}
 use Rattle.gob_formats.proofs.json_write.put.Goals as goal
 
@@ -22,4 +22,4 @@ returns-in-Equal c =
     ap (λ (x : Place). slice_cmp nat_cmp name x.name.now) (sym alike) ∙ sym c.in-Equal.ensures in
     put_at_equal l.places.items l.at q (record { name = q.name; index = c.args.new.index }) name c.args.new.index _
     (omega (arith, c.args.places.now.ok.0)) c.index_mut.ensures.value same refl
-    (l.invariant.2 ∙ ap (λ xs. put_name name c.args.new.index (map named xs)) l.invariant.0)
+    (l.invariant.2 ∙ ap (λ xs. put_name name c.args.new.index (map named_place xs)) l.invariant.0)

@@ -1,7 +1,7 @@
 use Rattle.std.proofs.Common.{◌≡◌, ◌<◌, ◌^◌, ◌++◌, [], ◌∷◌, ap, ap₂, ◌∙◌, arith, append_assoc}
 use Rattle.std.specs.Fmt.{decimal}
 use Rattle.std.specs.List.{list_all}
-use Rattle.gob_pipeline.specs.Alphabet.{is_name_byte}
+use Rattle.gob_pipeline.specs.Alphabet.{is_target_byte}
 use Rattle.gob_pipeline.proofs.Spelling.{folder_name}
 use Rattle.gob_pipeline.proofs.names.push_folder.Goals as goal
 
@@ -20,4 +20,4 @@ returns-clause-spelled c =
     c.in_ok-extend_from_slice-2.ensures.items ∙ ap₂ (λ a b. a ++ b) third c.as_bytes-2.ensures.value
     ∙ append_assoc (kind ++ decimal branch) (47 ∷ []) place in
     let small : branch < 2 ^ 64 = omega (arith, c.ranges.branch.fits) in
-    ap (list_all is_name_byte) whole ∙ folder_name kind place branch small c.requires.kind c.requires.placed
+    ap (list_all is_target_byte) whole ∙ folder_name kind place branch small c.requires.kind c.requires.placed

@@ -1,6 +1,6 @@
 use Rattle.std.proofs.Common.{◌≡◌, ◌++◌, ◌∷◌, [], sym, ap, subst, ◌∙◌, arith, length, length-append, ◌+◌, get_or}
 use Rattle.gob_branch.specs.Branches.{BranchValue}
-use Rattle.gob_pipeline.specs.Routes.{AreBranches, specs_of}
+use Rattle.gob_pipeline.specs.Routes.{AreNumberedBranches, specs_of}
 use Rattle.gob_pipeline.proofs.Routing.{one_more_branch, specs_more, taken_more}
 use Rattle.gob_pipeline.proofs.routes.branches_of.Goals as goal
 
@@ -12,7 +12,7 @@ loop-spec-preserved c =
     let b = c.in_ok-branch.branch in
     let spec = ap (λ (x : BranchValue). x.spec) made in
     record {
-      are = subst (AreBranches c.args.columns.now 0) (sym pushed)
+      are = subst (AreNumberedBranches c.args.columns.now 0) (sym pushed)
           (one_more_branch c.args.columns.now 0 c.loop-spec.number now b c.loop-spec.invariant.are
           (let n = c.loop-spec.invariant.number in let m = c.loop-spec.invariant.many in omega (arith, n, m))
           (ap (λ (x : BranchValue). x.number) made) (ap (λ (x : BranchValue). x.columns) made));

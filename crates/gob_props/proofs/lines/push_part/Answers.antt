@@ -4,14 +4,14 @@ use Rattle.std.proofs.lemmas.Bool.{ne_eqb}
 use Rattle.std.specs.Str.{chars}
 use Rattle.std.proofs.lemmas.Iterator.{YieldsList-from_chars}
 use Rattle.std.proofs.lemmas.Iterator.Consumers.{YieldsList-end}
-use Rattle.gob_props.specs.Properties.{goes_on, trimmed}
+use Rattle.gob_props.specs.Properties.{goes_on, without_white_space}
 use Rattle.gob_props.proofs.LogicalLemmas.{goes_on_more, goes_on_none, goes_on_trimmed, goes_on_some, without_last}
 use Rattle.gob_props.proofs.LogicalLemmas.{part_whole, part_front}
 use Rattle.gob_props.proofs.lines.push_part.Goals as goal
 
 -- the backslashes were counted in the trimmed line
 counted : (odd : Bool) (yielded trimmed' line : List ℕ) → odd ≡ goes_on yielded → yielded ≡ trimmed' →
-    trimmed' ≡ trimmed line → odd ≡ goes_on line
+    trimmed' ≡ without_white_space line → odd ≡ goes_on line
 counted odd yielded trimmed' line is all front = is ∙ ap goes_on (all ∙ front) ∙ goes_on_trimmed line
 
 pub loop-c-init : goal.loop-c-init

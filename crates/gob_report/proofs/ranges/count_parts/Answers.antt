@@ -1,6 +1,6 @@
 use Rattle.std.proofs.Common.{◌≤◌, sym, ap, subst, ◌∙◌}
 use Rattle.gob_state.proofs.WriteLemmas.{got_at}
-use Rattle.gob_report.specs.Counted.{counted_from, made_by}
+use Rattle.gob_report.specs.Counted.{counted_from, ranges_made_by}
 use Rattle.gob_report.proofs.Counts.{part_counted, parts_all}
 use Rattle.gob_report.proofs.ranges.count_parts.Goals as goal
 
@@ -10,7 +10,7 @@ loop-i-preserved c =
     in
     part_counted c.args.counts.now c.loop-i.counts _ c.args.table.now c.loop-i.i
     (c.in-Some.field-0-0.now, c.in-Some.marks.now) at.0 at.1 c.loop-i.invariant
-    (c.in_ok-count_done-in-Some.ensures ∙ ap (λ ds. counted_from 0 c.loop-i.counts (made_by ds)) c.done.ensures.done)
+    (c.in_ok-count_done-in-Some.ensures ∙ ap (λ ds. counted_from 0 c.loop-i.counts (ranges_made_by ds)) c.done.ensures.done)
 
 pub returns : goal.returns
 returns c =

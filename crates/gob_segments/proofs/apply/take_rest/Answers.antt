@@ -5,9 +5,9 @@ use Rattle.gob_ledger.specs.Marks.{Marks}
 use Rattle.gob_ledger.specs.Spelling.{Proper}
 use Rattle.gob_ledger.specs.State.{State}
 use Rattle.gob_state.specs.Parts.{NoPart}
-use Rattle.gob_state.specs.Reads.{Reads}
+use Rattle.gob_state.specs.Reads.{ReadsSpelling}
 use Rattle.gob_state.specs.Versions.{version_of}
-use Rattle.gob_segments.specs.Applied.{AreParted, RestAfter, rest_text}
+use Rattle.gob_segments.specs.Applied.{AreParted, RestAfter, rest_text_over}
 use Rattle.gob_segments.proofs.Stated.{apart_of, counted_missing, later_is_after, later_missing, parted_after}
 use Rattle.gob_segments.proofs.Stated.{rest_there}
 use Rattle.gob_segments.proofs.apply.take_rest.Goals as goal
@@ -45,7 +45,7 @@ returns-in_default-2 c =
       totals = c.state.inside.totals;
       parts = c.state.inside.marks;
     } in
-    subst (λ (x : State). Reads (rest_text (version_of c.args.version) x) (RestAfter (version_of c.args.version) x)
+    subst (λ (x : State). ReadsSpelling (rest_text_over (version_of c.args.version) x) (RestAfter (version_of c.args.version) x)
     NoPart
     c.args.text.now c.take_counted.new.text None) c.state.view_is
     (counted_missing (version_of c.args.version) s _ _ _ c.in_ok-pipelines.field-0 c.in-Some.pipelines
@@ -61,7 +61,7 @@ returns c =
       totals = c.state.inside.totals;
       parts = c.state.inside.marks;
     } in
-    subst (λ (x : State). Reads (rest_text (version_of c.args.version) x) (RestAfter (version_of c.args.version) x)
+    subst (λ (x : State). ReadsSpelling (rest_text_over (version_of c.args.version) x) (RestAfter (version_of c.args.version) x)
     NoPart
     c.args.text.now c.take_counted.new.text (Some (c.in-Some.pipelines, c.in-Some-2.counted))) c.state.view_is
     (rest_there (version_of c.args.version) s _ _ _ c.in_ok-pipelines.field-0 c.in-Some.pipelines c.len-count.result

@@ -1,7 +1,7 @@
 use Rattle.std.proofs.Common.{◌∙◌, map, sym, ap, rules}
 use Rattle.std.specs.List.{list_all}
 use Rattle.std.proofs.lemmas.List.{take_all, length-map}
-use Rattle.gob_seq.specs.Steps.{fits_at, step_of}
+use Rattle.gob_seq.specs.Steps.{fits_at, commit_step_of}
 use Rattle.gob_seq.proofs.Rows.{all_more, one_not}
 use Rattle.gob_seq.proofs.sequence.fit.Goals as goal
 
@@ -21,4 +21,4 @@ pub returns : goal.returns
 returns c =
     sym c.loop-step.invariant
     ∙ ap (list_all (fits_at c.args.place.now))
-    (take_all c.loop-step.step-index (map step_of c.args.steps.now) (search (rules, length-map)))
+    (take_all c.loop-step.step-index (map commit_step_of c.args.steps.now) (search (rules, length-map)))

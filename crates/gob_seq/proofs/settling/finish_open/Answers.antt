@@ -8,7 +8,7 @@ use Rattle.gob_device.proofs.Trail.{along_nothing}
 use Rattle.gob_recovery.specs.Commits.{OnlyBelow}
 use Rattle.gob_recovery.specs.Sequence.{CommitStep}
 use Rattle.gob_seq.specs.Faults.{Damages}
-use Rattle.gob_seq.specs.Maps.{Becomes, GoesOn, OnlyUnstages, SettlesByName, SettlesUnstaged}
+use Rattle.gob_seq.specs.Maps.{EndsBy, SettlingGoesOn, OnlyUnstages, SettlesByName, SettlesUnstaged}
 use Rattle.gob_seq.specs.Steps.{is_callable}
 use Rattle.gob_seq.specs.declared.place.Place.{Place}
 use Rattle.gob_seq.proofs.ByNames.{done_becomes, done_below, done_goes}
@@ -20,7 +20,7 @@ use Rattle.gob_seq.proofs.Unstaged.{done_unstages}
 use Rattle.gob_seq.proofs.settling.finish_open.Goals as goal
 
 pub returns-in_err-place-clause-goes : goal.returns-in_err-place-clause-goes
-returns-in_err-place-clause-goes g c = along_nothing (GoesOn c.args.job.now) _
+returns-in_err-place-clause-goes g c = along_nothing (SettlingGoesOn c.args.job.now) _
 
 pub returns-in_err-place-clause-readers : goal.returns-in_err-place-clause-readers
 returns-in_err-place-clause-readers g c = along_nothing (SettlesByName c.args.job.now) _
@@ -54,8 +54,8 @@ finish-requires-clause-steps g c =
 
 pub returns-in_err-sequence-clause-goes : goal.returns-in_err-sequence-clause-goes
 returns-in_err-sequence-clause-goes g c =
-    subst (Along (GoesOn c.args.job.now) (g.V.Volume.disk c.args.volume.now)) (sym c.open_sequence.ensures.disk)
-    (along_nothing (GoesOn c.args.job.now) _)
+    subst (Along (SettlingGoesOn c.args.job.now) (g.V.Volume.disk c.args.volume.now)) (sym c.open_sequence.ensures.disk)
+    (along_nothing (SettlingGoesOn c.args.job.now) _)
 
 pub returns-in_err-sequence-clause-readers : goal.returns-in_err-sequence-clause-readers
 returns-in_err-sequence-clause-readers g c =
@@ -154,8 +154,8 @@ returns-clause-was_open g c =
 
 pub returns-in_default-clause-goes : goal.returns-in_default-clause-goes
 returns-in_default-clause-goes g c =
-    subst (Along (GoesOn c.args.job.now) (g.V.Volume.disk c.args.volume.now)) (sym c.open_sequence.ensures.disk)
-    (along_nothing (GoesOn c.args.job.now) _)
+    subst (Along (SettlingGoesOn c.args.job.now) (g.V.Volume.disk c.args.volume.now)) (sym c.open_sequence.ensures.disk)
+    (along_nothing (SettlingGoesOn c.args.job.now) _)
 
 pub returns-in_default-clause-readers : goal.returns-in_default-clause-readers
 returns-in_default-clause-readers g c =
@@ -173,7 +173,7 @@ returns-in_default-clause-ok g c =
     let opened : c.as_str-opened.result.now ≡ sequence_name c.args.job.now =
     c.as_str-opened.ensures ∙ ap (λ (p : Place). p.sequence) c.in_ok-place.ensures in
     let none = rw c.in_default.is at c.in_ok-sequence.ensures.found in
-    subst (AddsMaps (Becomes (SettlesUnstaged c.args.job.now)) (g.V.Volume.disk c.args.volume.now))
+    subst (AddsMaps (EndsBy (SettlesUnstaged c.args.job.now)) (g.V.Volume.disk c.args.volume.now))
     (sym c.open_sequence.ensures.disk)
     (closed_becomes c.args.job.now _ _ opened none)
 

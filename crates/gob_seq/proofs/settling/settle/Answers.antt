@@ -5,7 +5,7 @@ use Rattle.gob_device.proofs.Trail.{along_map, along_then}
 use Rattle.gob_recovery.specs.Commits.{OnlyBelow}
 use Rattle.gob_recovery.proofs.Commits.{below_then}
 use Rattle.gob_seq.specs.Faults.{Damages, settle_of_commit}
-use Rattle.gob_seq.specs.Maps.{GoesOn, ImagesSettleTheSame, OnlyUnstages, SettlesTheSame}
+use Rattle.gob_seq.specs.Maps.{SettlingGoesOn, ImagesSettleTheSame, OnlyUnstages, SettlesTheSame}
 use Rattle.gob_seq.proofs.Named.{below_job}
 use Rattle.gob_seq.proofs.Readers.{settles_read_cleaned}
 use Rattle.gob_seq.proofs.Resettled.{becomes_undamaged, commit_damages, commit_rose, due_again, err_damages}
@@ -15,11 +15,11 @@ use Rattle.gob_seq.proofs.settling.settle.Goals as goal
 
 pub returns-in_err-was_open-clause-same : goal.returns-in_err-was_open-clause-same
 returns-in_err-was_open-clause-same g c =
-    along_map (GoesOn c.args.job.now) (SettlesTheSame c.args.job.now) (λ m n go. go.same) c.finish_open.ensures.goes
+    along_map (SettlingGoesOn c.args.job.now) (SettlesTheSame c.args.job.now) (λ m n go. go.same) c.finish_open.ensures.goes
 
 pub returns-in_err-was_open-clause-images : goal.returns-in_err-was_open-clause-images
 returns-in_err-was_open-clause-images g c =
-    along_map (GoesOn c.args.job.now) (ImagesSettleTheSame c.args.job.now) (goes_images c.args.job.now)
+    along_map (SettlingGoesOn c.args.job.now) (ImagesSettleTheSame c.args.job.now) (goes_images c.args.job.now)
     c.finish_open.ensures.goes
 
 pub returns-in_err-was_open-clause-damaged : goal.returns-in_err-was_open-clause-damaged
@@ -43,12 +43,12 @@ returns-in_err-was_open-clause-err g c =
 
 pub returns-in_err-clean_staging-clause-same : goal.returns-in_err-clean_staging-clause-same
 returns-in_err-clean_staging-clause-same g c =
-    along_map (GoesOn c.args.job.now) (SettlesTheSame c.args.job.now) (λ m n go. go.same)
+    along_map (SettlingGoesOn c.args.job.now) (SettlesTheSame c.args.job.now) (λ m n go. go.same)
     (goes_cleaned c.args.job.now c.finish_open.ensures.goes c.in_ok-was_open.ensures.ok c.clean_staging.ensures.below)
 
 pub returns-in_err-clean_staging-clause-images : goal.returns-in_err-clean_staging-clause-images
 returns-in_err-clean_staging-clause-images g c =
-    along_map (GoesOn c.args.job.now) (ImagesSettleTheSame c.args.job.now) (goes_images c.args.job.now)
+    along_map (SettlingGoesOn c.args.job.now) (ImagesSettleTheSame c.args.job.now) (goes_images c.args.job.now)
     (goes_cleaned c.args.job.now c.finish_open.ensures.goes c.in_ok-was_open.ensures.ok c.clean_staging.ensures.below)
 
 pub returns-in_err-clean_staging-clause-readers : goal.returns-in_err-clean_staging-clause-readers
@@ -85,12 +85,12 @@ returns-in_err-clean_staging-clause-below g c =
 
 pub returns-clause-same : goal.returns-clause-same
 returns-clause-same g c =
-    along_map (GoesOn c.args.job.now) (SettlesTheSame c.args.job.now) (λ m n go. go.same)
+    along_map (SettlingGoesOn c.args.job.now) (SettlesTheSame c.args.job.now) (λ m n go. go.same)
     (goes_cleaned c.args.job.now c.finish_open.ensures.goes c.in_ok-was_open.ensures.ok c.clean_staging.ensures.below)
 
 pub returns-clause-images : goal.returns-clause-images
 returns-clause-images g c =
-    along_map (GoesOn c.args.job.now) (ImagesSettleTheSame c.args.job.now) (goes_images c.args.job.now)
+    along_map (SettlingGoesOn c.args.job.now) (ImagesSettleTheSame c.args.job.now) (goes_images c.args.job.now)
     (goes_cleaned c.args.job.now c.finish_open.ensures.goes c.in_ok-was_open.ensures.ok c.clean_staging.ensures.below)
 
 pub returns-clause-readers : goal.returns-clause-readers

@@ -1,6 +1,6 @@
 use Rattle.std.proofs.Common.{◌≡◌, ◌∙◌, ◌≤◌, true, sym, ap, subst, arith, rules}
 use Rattle.gob_device.specs.Names.{IsPathname}
-use Rattle.gob_seq.specs.Steps.{is_callable, step_of}
+use Rattle.gob_seq.specs.Steps.{is_callable, commit_step_of}
 use Rattle.gob_seq.proofs.Losing.{can_more, is_first, not_lost, other_can}
 use Rattle.gob_seq.proofs.Named.{callable_at, move_named}
 use Rattle.gob_seq.proofs.steps.first_lost.Goals as goal
@@ -8,8 +8,8 @@ use Rattle.gob_seq.proofs.steps.first_lost.Goals.{in-Move+in_ok-is_lost+else-bra
 
 pub is_lost-requires : goal.is_lost-requires
 is_lost-requires g c =
-    let fits = subst (λ s. is_callable (step_of s) ≡ true) c.in-Move.is
-    (callable_at step_of c.args.steps.now c.loop-step.step-index c.step-item.result (search rules) c.step-item.is
+    let fits = subst (λ s. is_callable (commit_step_of s) ≡ true) c.in-Move.is
+    (callable_at commit_step_of c.args.steps.now c.loop-step.step-index c.step-item.result (search rules) c.step-item.is
     c.requires.steps) in
     let named = move_named c.in-Move.from c.in-Move.to fits in
     record {

@@ -1,14 +1,14 @@
 use Rattle.std.proofs.Common.{◌≡◌, ℕ, ◌+◌, List, true, refl, sym, subst, None, Option, arith}
 use Rattle.gob_plan.specs.declared.units.BranchCounts.{BranchCounts}
-use Rattle.gob_state.specs.Counts.{branch_lines, AreBranches, NoBranch}
-use Rattle.gob_state.specs.Reads.{Reads}
+use Rattle.gob_state.specs.Counts.{branch_count_lines, AreBranches, NoBranch}
+use Rattle.gob_state.specs.Reads.{ReadsSpelling}
 use Rattle.gob_state.proofs.CountLemmas.{SomeBranches, branch_missing, branch_of_four, branches_end, eight_branches}
 use Rattle.gob_state.proofs.CountLemmas.{four_missing, index_differs, next_branch, none_at_first}
 use Rattle.gob_state.proofs.counts.take_branches.Goals as goal
 use Rattle.gob_state.proofs.counts.take_branches.Goals.{then-index-eq0, else-index-eq0}
 
 abbrev At : (o n : List ℕ) → Option (List BranchCounts) → Type 0
-At o n r = Reads branch_lines AreBranches NoBranch o n r
+At o n r = ReadsSpelling branch_count_lines AreBranches NoBranch o n r
 
 pub returns-then-not-take_text : goal.returns-then-not-take_text
 returns-then-not-take_text c = elim c.if-index-eq0.branch [

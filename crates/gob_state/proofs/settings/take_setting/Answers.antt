@@ -1,7 +1,7 @@
 use Rattle.std.proofs.Common.{List, ℕ, refl, sym, subst, ◌∙◌, Some, None}
 use Rattle.std.proofs.lemmas.Bool.{false≢true}
 use Rattle.gob_text.specs.Words.{GoesOnAtAll}
-use Rattle.gob_state.specs.Reads.{Reads}
+use Rattle.gob_state.specs.Reads.{ReadsSpelling}
 use Rattle.gob_state.specs.Settings.{IsSettingLine, whole_line}
 use Rattle.gob_state.proofs.SettingLemmas.{setting_is_line, setting_is_text}
 use Rattle.gob_state.proofs.Steps.{from_takes, not_even, refused, passed}
@@ -20,7 +20,7 @@ pub returns-then-branch : goal.returns-then-branch
 returns-then-branch c =
     let same = c.in-Ok.ensures.cases.0 in
     let is = c.in_ok-is_setting.ensures.0 c.if-branch.true in
-    subst (λ (l : List ℕ). Reads whole_line IsSettingLine GoesOnAtAll c.args.text.now c.take_line.new.self (Some l))
+    subst (λ (l : List ℕ). ReadsSpelling whole_line IsSettingLine GoesOnAtAll c.args.text.now c.take_line.new.self (Some l))
     (sym same)
     (passed _ _ c.in-Some.bytes.now (from_takes _ _ (Some c.in-Some.bytes.now) c.in-Some.ensures) setting_is_line
     (subst IsSettingLine same is))

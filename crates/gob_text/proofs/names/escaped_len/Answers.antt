@@ -1,11 +1,11 @@
 use Rattle.std.proofs.Common.{◌≡◌, cond, length, [], sym, ap, ◌∙◌, arith}
-use Rattle.gob_bytes.specs.Escapes.{escaped}
+use Rattle.gob_bytes.specs.Escapes.{escape_of}
 use Rattle.gob_text.proofs.EscapedLength.{escaped_none, escaped_step}
 use Rattle.gob_text.proofs.names.escaped_len.Goals as goal
 use Rattle.gob_text.proofs.names.escaped_len.Goals.{then-is_plain, else-is_plain}
 
 pub loop-byte-init : goal.loop-byte-init
-loop-byte-init c = let none : length (escaped []) ≡ 0 = escaped_none in omega arith
+loop-byte-init c = let none : length (escape_of []) ≡ 0 = escaped_none in omega arith
 
 pub loop-byte-preserved : goal.loop-byte-preserved
 loop-byte-preserved c =

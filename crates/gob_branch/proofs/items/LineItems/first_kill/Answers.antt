@@ -6,7 +6,7 @@ use Rattle.gob_meaning.specs.Items.{RowMade}
 use Rattle.gob_meaning.specs.Fold.{first_kill}
 use Rattle.gob_branch.specs.declared.items.ItemEnd.TheVariants.{Written}
 use Rattle.gob_branch.specs.declared.items.Span.{Span}
-use Rattle.gob_branch.specs.ItemSpans.{between, rows_made, span_made}
+use Rattle.gob_branch.specs.ItemSpans.{bytes_between, rows_made, span_made}
 use Rattle.gob_branch.proofs.Spans.{rows_from, rows_length, is_killed, not_killed}
 use Rattle.gob_branch.proofs.items.LineItems.first_kill.Goals as goal
 
@@ -43,7 +43,7 @@ loop-span-preserved c =
     let next : suc c.loop-span.span-index ≡ c.loop-span.span-index + 1 = omega arith in
     c.loop-span.invariant ∙ ap first_kill (left_from bytes c.self.inside.spans.items c.deref-span-items.result.now
     c.args.self.now c.loop-span.span-index c.self.view_is c.deref-span-items.ensures.value c.loop-span-test.true)
-    ∙ not_killed s.branch s.end (between s.place_end s.record_end bytes) (first_kill later) c.in_default.not-Killed
+    ∙ not_killed s.branch s.end (bytes_between s.place_end s.record_end bytes) (first_kill later) c.in_default.not-Killed
     ∙ ap (λ k. first_kill (drop k c.args.self.now)) next
 
 pub returns : goal.returns

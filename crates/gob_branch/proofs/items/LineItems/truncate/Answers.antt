@@ -1,6 +1,6 @@
 use Rattle.std.proofs.Common.{sym, ap, ◌∙◌, subst, take}
 use Rattle.std.proofs.lemmas.List.{take-map}
-use Rattle.gob_branch.specs.ItemSpans.{AreWithin, rows_made, span_made}
+use Rattle.gob_branch.specs.ItemSpans.{ItemsAreWithin, rows_made, span_made}
 use Rattle.gob_branch.proofs.Spans.{within_take}
 use Rattle.gob_branch.proofs.items.LineItems.truncate.Goals as goal
 
@@ -8,7 +8,7 @@ pub invariant_of-self : goal.invariant_of-self
 invariant_of-self c =
     let bytes = c.self.inside.bytes.items in
     let spans = c.self.inside.spans.items in
-    subst (AreWithin bytes) (sym c.truncate.ensures.items) (within_take bytes c.args.count spans c.self.invariant)
+    subst (ItemsAreWithin bytes) (sym c.truncate.ensures.items) (within_take bytes c.args.count spans c.self.invariant)
 
 pub returns : goal.returns
 returns c =

@@ -4,7 +4,7 @@ use Rattle.gob_bytes.specs.Tables.{IsInByteOrder, Table, names_of}
 use Rattle.gob_meaning.specs.Items.{Target}
 use Rattle.gob_meaning.specs.Fold.{Delivery}
 use Rattle.gob_pipeline.specs.Made.{Buffers, AddsTo, AreSlots, IsSlot, is_placed, slot_of, place_in, target_value}
-use Rattle.gob_pipeline.specs.Taking.{with_more}
+use Rattle.gob_pipeline.specs.Taking.{with_bytes_at}
 use Rattle.gob_pipeline.proofs.Adds.{slot_found, vector_found, same_vector, slots_more, adds_one}
 use Rattle.gob_pipeline.proofs.buffers.TargetBuffers.push.Goals as goal
 
@@ -38,7 +38,7 @@ invariant_of-self-2 c =
     subst AreSlots
     (sym (map-set (λ v. v.items) vectors c.slot_of-slot.result c.add_at.new.table
     ∙ ap₂ (λ n (t : Table (List ℕ)). set tables n t) c.slot_of-slot.ensures
-    (c.in_ok-add_at.ensures.ok ∙ ap (λ p. with_more table p bytes) c.place_of.ensures)))
+    (c.in_ok-add_at.ensures.ok ∙ ap (λ p. with_bytes_at table p bytes) c.place_of.ensures)))
     (slots_more tables d table bytes c.self.invariant c.requires.placed s)
 
 pub returns-clause-ok : goal.returns-clause-ok
@@ -58,5 +58,5 @@ returns-clause-ok c =
     (subst (λ (b : Buffers). AddsTo tables b given)
     (sym (map-set (λ v. v.items) vectors c.slot_of-slot.result c.add_at.new.table
     ∙ ap₂ (λ n (t : Table (List ℕ)). set tables n t) c.slot_of-slot.ensures
-    (c.in_ok-add_at.ensures.ok ∙ ap (λ p. with_more table p bytes) c.place_of.ensures)))
+    (c.in_ok-add_at.ensures.ok ∙ ap (λ p. with_bytes_at table p bytes) c.place_of.ensures)))
     (adds_one tables d table bytes there is))

@@ -4,21 +4,21 @@ use Rattle.gob_pipeline.specs.contracts.routes.Routes.{the_view}
 use Rattle.std.specs.Option.{is_some}
 use Rattle.gob_plan.specs.declared.rows.Column.{Column}
 use Rattle.gob_branch.specs.Branches.{BranchValue}
-use Rattle.gob_pipeline.specs.Routes.{AreBranches, RoutesValue, RowSent, specs_of, waiting_makes}
+use Rattle.gob_pipeline.specs.Routes.{AreNumberedBranches, RoutesValue, RowSent, specs_of, waiting_makes}
 use Rattle.gob_pipeline.proofs.Routing.{routed_all, sent_all, sent_more, sent_past}
 use Rattle.gob_pipeline.proofs.routes.Routes.push.Goals as goal
 use Rattle.gob_pipeline.proofs.routes.Routes.push.Goals.{then-takes+in_ok-push_lent, else-takes}
 
 -- the branches as the loop sees them
 record Lent (r : RoutesValue) (bs : List BranchValue) : Type 0 where
-  are : AreBranches r.columns 0 bs
+  are : AreNumberedBranches r.columns 0 bs
   specs : specs_of bs ≡ r.branches
 
 lent : (r inner : RoutesValue) (own bs : List BranchValue) → inner ≡ r → specs_of own ≡ inner.branches
-    → AreBranches inner.columns 0 own → bs ≡ own → Lent r bs
+    → AreNumberedBranches inner.columns 0 own → bs ≡ own → Lent r bs
 lent r inner own bs same specs are value = record {
-  are = subst (AreBranches r.columns 0) (sym value)
-      (subst (λ (cs : List Column). AreBranches cs 0 own) (ap (λ (x : RoutesValue). x.columns) same) are);
+  are = subst (AreNumberedBranches r.columns 0) (sym value)
+      (subst (λ (cs : List Column). AreNumberedBranches cs 0 own) (ap (λ (x : RoutesValue). x.columns) same) are);
   specs = ap specs_of value ∙ (specs ∙ ap (λ (x : RoutesValue). x.branches) same);
 }
 

@@ -1,6 +1,6 @@
 use Rattle.std.proofs.Common.{◌≡◌, ap, sym, subst, ◌∙◌, map}
 use Rattle.gob_bytes.specs.Tables.{IsInByteOrder}
-use Rattle.gob_stage.specs.Stages.{HoldsAll, after_finish}
+use Rattle.gob_stage.specs.Stages.{HoldsAll, after_sync_calls}
 use Rattle.gob_stage.proofs.Held.{both_told, holds_all}
 use Rattle.gob_stage.proofs.Opened.{Opened, files_rising, lent_below, lent_named, lent_staged, lent_synced, lent_there}
 use Rattle.gob_stage.proofs.attempt.Attempt.finish.Goals as goal
@@ -61,7 +61,7 @@ returns-clause-disk g c =
     c.as_slice.ensures.value
 
 pub returns-clause-holds : goal.returns-clause-holds
-returns-clause-holds g c = both_told (HoldsAll c.args.self) (after_finish c.args.self) (holds_all c.args.self) _ _
+returns-clause-holds g c = both_told (HoldsAll c.args.self) (after_sync_calls c.args.self) (holds_all c.args.self) _ _
     (returns-clause-disk g c)
 
 pub returns-clause-files : goal.returns-clause-files

@@ -2,7 +2,7 @@ use Rattle.std.proofs.Common.{◌≡◌, [], ◌∷◌, get_or, set, option_map,
 use Rattle.gob_plan.specs.declared.rows.Value.{Value}
 use Rattle.gob_plan.specs.declared.rows.Value.TheVariants as value
 use Rattle.gob_plan.specs.Rows.{conforms}
-use Rattle.gob_steps.specs.Changes.{change_of}
+use Rattle.gob_steps.specs.Changes.{value_change_of}
 use Rattle.gob_steps.proofs.Making.{own_at, changing_needs, change_made, changed_done}
 use Rattle.gob_steps.proofs.step.Step.changed.Goals as goal
 
@@ -21,7 +21,7 @@ returns-in-Ok-clause-ok c =
     let at = own_at s.spec s.columns s.after s.place row.values s.told (changing_needs s.spec c.requires.changes) s.own
     c.requires.conforms in
     change_made s.spec s.columns row s.place c.requires.changes at
-    ∙ changed_done (change_of s.spec (get_or row.values s.place value.Null)) (set row.values s.place)
+    ∙ changed_done (value_change_of s.spec (get_or row.values s.place value.Null)) (set row.values s.place)
     c.in-Ok.changed.values c.in-Ok.ensures.ok
 
 pub returns-in-Err-clause-bad : goal.returns-in-Err-clause-bad
