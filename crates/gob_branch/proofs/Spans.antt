@@ -9,7 +9,8 @@ use Rattle.gob_meaning.specs.Fold.{kill_or}
 use Rattle.gob_branch.specs.declared.items.ItemEnd.{ItemEnd}
 use Rattle.gob_branch.specs.declared.items.ItemEnd.TheVariants.{Written, Error, Killed}
 use Rattle.gob_branch.specs.declared.items.Span.{Span}
-use Rattle.gob_branch.specs.ItemSpans.{bytes_between, end_made, row_made, span_made, rows_made, ItemIsWithin, ItemsAreWithin}
+use Rattle.gob_branch.specs.ItemSpans.{bytes_between, end_made, row_made, span_made, rows_made, ItemIsWithin}
+use Rattle.gob_branch.specs.ItemSpans.{ItemsAreWithin}
 
 -- what stands between two places stays, whatever comes behind
 pub bytes_between-append : (from to : ℕ) (xs ys : List ℕ) → from ≤ to → to ≤ length xs →
@@ -47,7 +48,8 @@ pub record Pushed (xs ys : List ℕ) (ss : List Span) (s : Span) : Type 0 where
   pub within : ItemsAreWithin (xs ++ ys) (ss ++ s ∷ [])
   pub made : rows_made (xs ++ ys) (ss ++ s ∷ []) ≡ rows_made xs ss ++ span_made (xs ++ ys) s ∷ []
 
-pub pushed : (xs ys : List ℕ) (ss : List Span) (s : Span) → ItemsAreWithin xs ss → ItemIsWithin (xs ++ ys) s → Pushed xs ys ss s
+pub pushed : (xs ys : List ℕ) (ss : List Span) (s : Span) → ItemsAreWithin xs ss → ItemIsWithin (xs ++ ys) s
+    → Pushed xs ys ss s
 pushed xs ys [] s all w = record { within = (w, tt); made = refl }
 pushed xs ys (t ∷ ts) s all w = let p = pushed xs ys ts s all.1 w in record {
   within = (within-append xs ys t all.0, p.within);

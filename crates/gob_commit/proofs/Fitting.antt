@@ -23,7 +23,8 @@ use Rattle.gob_ledger.specs.Spelling.{Proper, Small}
 use Rattle.gob_ledger.specs.State.{State}
 use Rattle.gob_ledger.proofs.DeltaNames.{change_below, same_number_named}
 use Rattle.gob_ledger.proofs.Members.{in_cases, in_map, map_in, none_in}
-use Rattle.gob_recovery.specs.Sequence.{CommitStep, WellFormed, is_file_name, is_lasting, is_sequence_byte, is_staged, move}
+use Rattle.gob_recovery.specs.Sequence.{CommitStep, WellFormed, is_file_name, is_lasting, is_sequence_byte, is_staged}
+use Rattle.gob_recovery.specs.Sequence.{move}
 use Rattle.gob_recovery.specs.Sequence.{names_in, remove, step_fits}
 use Rattle.gob_history.specs.Laws.{group_steps, moves_of, removes_of, staged_state}
 use Rattle.gob_history.proofs.Fronts.{kept_unstaged, published_not_kept, published_unstaged, under_front}
@@ -68,7 +69,8 @@ unfolding padded_digits
 padded_named zero n = refl
 padded_named (suc k) n =
     bytes_both (padded_digits k (n / 10)) ((48 + n % 10) ∷ []) (padded_named k (n / 10))
-    (and_from (is_sequence_byte (48 + n % 10)) true (digit_named (48 + n % 10) (is_a_digit (n % 10) (omega arith))) refl)
+    (and_from (is_sequence_byte (48 + n % 10)) true (digit_named (48 + n % 10) (is_a_digit (n % 10) (omega arith)))
+    refl)
 
 offset_named : (n : ℕ) → list_all is_sequence_byte (offset n) ≡ true
 unfolding offset

@@ -44,7 +44,8 @@ pub bad_more : (q : List ℕ) (units : List WorkUnit) (results : List UnitResult
 bad_more q units results i u r old now whole below within is made put so_far =
     let rest = list_any (is_bad_unit q) (judged_by (drop (i + 1) units) (drop (i + 1) results)) in
     ap (λ b. b || rest) put ∙ or_turned old (is_bad_unit q (u, verdict_in r)) rest
-    ∙ ap (λ js. old || list_any (is_bad_unit q) js) (sym (judged_drop units results i u r below within is made)) ∙ so_far
+    ∙ ap (λ js. old || list_any (is_bad_unit q) js) (sym (judged_drop units results i u r below within is made))
+    ∙ so_far
 
 and_not : (a b : Bool) → b ≡ true → (a && not b) ≡ false
 and_not true b e = ap not e

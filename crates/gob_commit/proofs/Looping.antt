@@ -122,7 +122,8 @@ loop_at rules l0 units results vs i v l old now below is over so =
       split = subst (Split rules units results)
           (whole_is units results vs i ∙ ap (λ (gs : List (List PulledUnit)). before ++ gs) rest) over.split;
       so_far = subst (λ (gs : List (List PulledUnit)). SoFar rules l0 before gs l) rest so.so_far;
-      maps = subst (λ (gs : List (List PulledUnit)). AddsMaps (Came rules l0 units results before gs l) old now) rest so.maps;
+      maps = subst (λ (gs : List (List PulledUnit)). AddsMaps (Came rules l0 units results before gs l) old now) rest
+          so.maps;
     }
 
 pub loop_can : (rules : CommitRules) (l0 : Loaded) (units : List WorkUnit) (results : List UnitResult)
@@ -180,7 +181,8 @@ loop_more rules l0 units results vs i v l after {old} {now} {new} below is can a
     (subst (λ (x : List WorkUnit). LeadsToNext rules l x (picked_items results v.items) after) us leads) in
     let ended : AddsMaps (GroupEnds rules l (units_in g) (results_in g) after) now new =
     subst (λ (x : List UnitResult). AddsMaps (GroupEnds rules l (units_in g) x after) now new) rs
-    (subst (λ (x : List WorkUnit). AddsMaps (GroupEnds rules l x (picked_items results v.items) after) now new) us ends) in
+    (subst (λ (x : List WorkUnit). AddsMaps (GroupEnds rules l x (picked_items results v.items) after) now new) us
+    ends) in
     let left : AddsMaps (LeavesStaging rules.job.now (group_pairs g)) now new =
     subst (λ (x : List UnitResult). AddsMaps (LeavesStaging rules.job.now (all_pairs x)) now new) rs leaves in
     record {

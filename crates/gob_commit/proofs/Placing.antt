@@ -204,17 +204,20 @@ picked_are {X} part d whole front (x ∷ xs) (u ∷ us) n is long along =
     cases false true same later = cc
 
 picked_map : {X : Type 0} (js : List X) (t : Table (List ℕ)) → map (λ (e : List ℕ × List X). e.1)
-    (map (λ (e : List ℕ × List ℕ). (e.0, picked_items js e.1)) t) ≡ map (picked_items js) (map (λ (e : List ℕ × List ℕ). e.1) t)
+    (map (λ (e : List ℕ × List ℕ). (e.0, picked_items js e.1)) t) ≡ map (picked_items js)
+    (map (λ (e : List ℕ × List ℕ). e.1) t)
 picked_map js [] = refl
 picked_map {X} js (e ∷ es) = ap (λ (xs : List (List X)). picked_items js e.1 ∷ xs) (picked_map js es)
 
 picked_at : {X : Type 0} (js : List X) (t : Table (List ℕ)) (q : List ℕ)
-    → at_name (map (λ (e : List ℕ × List ℕ). (e.0, picked_items js e.1)) t) q ≡ option_map (picked_items js) (at_name t q)
+    → at_name (map (λ (e : List ℕ × List ℕ). (e.0, picked_items js e.1)) t) q ≡ option_map (picked_items js)
+    (at_name t q)
 picked_at js [] q = refl
 picked_at {X} js (e ∷ es) q = cases (bytes_eq q e.0) (picked_at js es q)
   where
     cases : (b : Bool)
-        → at_name (map (λ (f : List ℕ × List ℕ). (f.0, picked_items js f.1)) es) q ≡ option_map (picked_items js) (at_name es q)
+        → at_name (map (λ (f : List ℕ × List ℕ). (f.0, picked_items js f.1)) es) q ≡ option_map (picked_items js)
+        (at_name es q)
         → cond b (Some (picked_items js e.1)) (at_name (map (λ (f : List ℕ × List ℕ). (f.0, picked_items js f.1)) es) q)
         ≡ option_map (picked_items js) (cond b (Some e.1) (at_name es q))
     cases true later = refl

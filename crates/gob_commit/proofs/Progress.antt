@@ -37,7 +37,8 @@ use Rattle.gob_commit.specs.Going.{CommitsAlong, GoesOverAll, GoneAlong, GroupEn
 use Rattle.gob_commit.specs.Going.{GroupRose, LeadsToLast, LeadsToNext, LeavesStaging, LeftByGroup}
 use Rattle.gob_commit.specs.Laws.{HasRange}
 use Rattle.gob_segments.specs.Loading.{IsLoaded, LoadedFits}
-use Rattle.gob_commit.specs.Staged.{AreReadyToMove, CanCommit, HasRules, HasStaged, PulledUnit, NamesFit, Pair, RunHasStaged}
+use Rattle.gob_commit.specs.Staged.{AreReadyToMove, CanCommit, HasRules, HasStaged, PulledUnit, NamesFit, Pair}
+use Rattle.gob_commit.specs.Staged.{RunHasStaged}
 use Rattle.gob_commit.specs.Staged.{all_pairs, judged_of, pairs_in, state_or}
 use Rattle.gob_commit.proofs.Beginning.{none_done}
 use Rattle.gob_commit.proofs.Doing.{kept_more, one_more, uncommitted}
@@ -58,7 +59,8 @@ pub record SoFar (rules : CommitRules) (l0 : Loaded) (before rest : List (List P
   pub units : (g : List PulledUnit) → Contains rest g → UnitsFit (state_or rules.branches l.state).parts (units_in g)
 
 pub so_far_first : (rules : CommitRules) (l : Loaded) (units : List WorkUnit) (results : List UnitResult)
-    (gs : List (List PulledUnit)) → CanCommit rules l units results → Split rules units results gs → SoFar rules l [] gs l
+    (gs : List (List PulledUnit)) → CanCommit rules l units results → Split rules units results gs
+    → SoFar rules l [] gs l
 so_far_first rules l units results gs can s = record {
   fits = can.loaded;
   state = λ j has. refl;
@@ -128,7 +130,8 @@ so_far_more rules l0 l after units results before rest g s so leads =
           (subst (λ (t : State). UnitsFit t.parts (map (λ (i : Judged). i.0) (map judged_of h)))
           (λ i. next_state (state_or rules.branches l.state) rules.pipeline.now (units_judged g i) (verdicts_judged g i)
           rules.policy)
-          (others_fit (state_or rules.branches l.state) rules.pipeline.now (map judged_of g) (map judged_of h) rules.policy
+          (others_fit (state_or rules.branches l.state) rules.pipeline.now (map judged_of g)
+          (map judged_of h) rules.policy
           (rest_apart (judged_in_groups before) (judged_in_groups rest) (map judged_of g) apart (map judged_of h)
           (map_in (map judged_of) rest h k))
           (subst (UnitsFit (state_or rules.branches l.state).parts) (sym (units_judged h)) fit))) in
@@ -163,7 +166,8 @@ pub record Came (rules : CommitRules) (l0 : Loaded) (units : List WorkUnit) (res
     (before rest : List (List PulledUnit)) (l : Loaded) (m : Files) (added : List Files) : Type 0 where
   pub closed : last_map m added (sequence_name rules.job.now) ≡ None
   pub there : (p : Pair) → Contains (all_pairs results) p → IsSome (m p.0)
-  pub same : (g : List PulledUnit) → Contains rest g → (p : Pair) → Contains (group_pairs g) p → last_map m added p.0 ≡ m p.0
+  pub same : (g : List PulledUnit) → Contains rest g → (p : Pair) → Contains (group_pairs g) p → last_map m added p.0
+      ≡ m p.0
   pub along : (j : Job) (held : Held) (settled : Files) → HasRules j rules
       → (s : RunHasStaged j held l0 units results settled m)
       → CameOver j held l0.state s.has.kept (judged_in_groups before) settled l added (last_map m added)
@@ -188,7 +192,8 @@ came_here rules l units results gs m there = record {
 }
 
 pub came_first : (rules : CommitRules) (l : Loaded) (units : List WorkUnit) (results : List UnitResult)
-    (gs : List (List PulledUnit)) (o : Option Disk) → IfSome o (λ d. AreReadyToMove rules.job.now (all_pairs results) d.files)
+    (gs : List (List PulledUnit)) (o : Option Disk) → IfSome o
+    (λ d. AreReadyToMove rules.job.now (all_pairs results) d.files)
     → AddsMaps (Came rules l units results [] gs l) o o
 came_first rules l units results gs o there =
     maps_still (Came rules l units results [] gs l) o

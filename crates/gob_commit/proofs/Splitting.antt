@@ -87,7 +87,8 @@ split_job rules units results is = record {
       (in_cases (zip units results) [] g h);
 }
 
-picked_map : {X Y : Type 0} (f : X → Y) (xs : List X) (ps : List ℕ) → map f (picked_items xs ps) ≡ picked_items (map f xs) ps
+picked_map : {X Y : Type 0} (f : X → Y) (xs : List X) (ps : List ℕ) → map f (picked_items xs ps) ≡ picked_items
+    (map f xs) ps
 picked_map f xs [] = refl
 picked_map {X} {Y} f xs (p ∷ ps) = one (slice_get xs p) (slice_get (map f xs) p) (got xs p) (picked_map f xs ps)
   where
@@ -105,12 +106,14 @@ picked_map {X} {Y} f xs (p ∷ ps) = one (slice_get xs p) (slice_get (map f xs) 
 pub picked_units : (units : List WorkUnit) (results : List UnitResult) (ps : List ℕ) → length results ≡ length units
     → units_in (picked_items (zip units results) ps) ≡ picked_items units ps
 picked_units units results ps counted =
-    picked_map (λ (w : PulledUnit). w.0) (zip units results) ps ∙ ap (λ us. picked_items us ps) (zip_firsts units results counted)
+    picked_map (λ (w : PulledUnit). w.0) (zip units results) ps ∙ ap (λ us. picked_items us ps)
+    (zip_firsts units results counted)
 
 pub picked_results : (units : List WorkUnit) (results : List UnitResult) (ps : List ℕ) → length results ≡ length units
     → results_in (picked_items (zip units results) ps) ≡ picked_items results ps
 picked_results units results ps counted =
-    picked_map (λ (w : PulledUnit). w.1) (zip units results) ps ∙ ap (λ rs. picked_items rs ps) (zip_seconds units results counted)
+    picked_map (λ (w : PulledUnit). w.1) (zip units results) ps ∙ ap (λ rs. picked_items rs ps)
+    (zip_seconds units results counted)
 
 judged_groups : (made : List PulledUnit) (places : List (List ℕ))
     → judged_in_groups (map (picked_items made) places) ≡ map (picked_items (map judged_of made)) places
@@ -167,7 +170,8 @@ pub rest_apart : (before rest : List (List Judged)) (g : List Judged) → EachAp
 rest_apart [] rest g apart h k = apart.0 h k
 rest_apart (b ∷ bs) rest g apart h k = rest_apart bs rest g apart.1 h k
 
-pub split_apart : (rules : CommitRules) (units : List WorkUnit) (results : List UnitResult) (gs : List (List PulledUnit))
+pub split_apart : (rules : CommitRules) (units : List WorkUnit) (results : List UnitResult)
+    (gs : List (List PulledUnit))
     → Split rules units results gs → EachApart (judged_in_groups gs)
 split_apart rules units results gs s = subst EachApart (sym s.are) (grouped rules.scope (judged_by units results)).apart
 
@@ -242,7 +246,8 @@ pair_in units results g p counted within h =
     flat_map_in pairs_in results found.0.1 p (result_of units results found.0 counted (within found.0 found.1)) found.2
 
 -- files of different groups have different names
-pub sources_apart : (units : List WorkUnit) (results : List UnitResult) (g h : List PulledUnit) (p q : Pair) (job : List ℕ)
+pub sources_apart : (units : List WorkUnit) (results : List UnitResult) (g h : List PulledUnit) (p q : Pair)
+    (job : List ℕ)
     → length results ≡ length units → NamesFit job (all_pairs results) → NoneShared (map judged_of g) (map judged_of h)
     → ((w : PulledUnit) → Contains g w → Contains (zip units results) w)
     → ((w : PulledUnit) → Contains h w → Contains (zip units results) w)
@@ -304,7 +309,8 @@ group_kept units results g counted within kept = record {
 }
 
 pub group_can : (rules : CommitRules) (l0 l : Loaded) (units : List WorkUnit) (results : List UnitResult)
-    (gs : List (List PulledUnit)) (g : List PulledUnit) → CanCommit rules l0 units results → Split rules units results gs
+    (gs : List (List PulledUnit)) (g : List PulledUnit) → CanCommit rules l0 units results
+    → Split rules units results gs
     → Contains gs g → LoadedFits l → UnitsFit (state_or rules.branches l.state).parts (units_in g)
     → CanCommit rules l (units_in g) (results_in g)
 group_can rules l0 l units results gs g can s h fits fit =

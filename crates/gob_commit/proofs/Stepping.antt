@@ -69,7 +69,8 @@ moved_can job c pairs m p there fit h =
     ap is_some (others_there job c m p.0 (fit.apart p h)) ∙ there.there p h in
     ap (λ b. b || is_some (with_state job c m p.1)) here
 
-each_can : (job : List ℕ) (c : Change) (pairs sorted : List Pair) (m : Files) (s : CommitStep) → AreReadyToMove job pairs m
+each_can : (job : List ℕ) (c : Change) (pairs sorted : List Pair) (m : Files) (s : CommitStep)
+    → AreReadyToMove job pairs m
     → NamesFit job pairs → SortsPairs job c pairs sorted → Contains (group_steps job c sorted) s
     → can_do (with_state job c m) s ≡ true
 each_can job c pairs sorted m s there fit order h = ⊎_elim
@@ -100,7 +101,8 @@ abbrev pub WhereThere : List ℕ → List Pair → (Files → List Files → Typ
 WhereThere job pairs P m xs = AreReadyToMove job pairs m → P m xs
 
 pub where_there : (job : List ℕ) (pairs : List Pair) {P : Files → List Files → Type 0} {old new : Option Disk}
-    → IfSome old (λ d. AreReadyToMove job pairs d.files) → AddsMaps (WhereThere job pairs P) old new → AddsMaps P old new
+    → IfSome old (λ d. AreReadyToMove job pairs d.files) → AddsMaps (WhereThere job pairs P) old new
+    → AddsMaps P old new
 where_there job pairs {P} {old} there a = maps_known (if_both old (λ d t xs p. p t) there) a
 
 as_before : (job : List ℕ) (m : Files) (xs : List Files) → m (sequence_name job) ≡ None

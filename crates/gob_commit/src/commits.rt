@@ -35,7 +35,8 @@ pub fn commit_groups<V: Volume>(
     results: &[UnitResult],
 ) -> Result<Committed, CommitFault>
     requires can { CanCommit rules.now loaded units.now results.now }
-    requires there { IfSome (V.disk volume.old) (λ d. AreReadyToMove rules.now.job.now (all_pairs results.now) d.files) }
+    requires there { IfSome (V.disk volume.old) (λ d. AreReadyToMove rules.now.job.now
+        (all_pairs results.now) d.files) }
     ensures value { IfOk result (CommitsAre rules.now loaded units.now results.now) }
     ensures proper { IfOk result (λ c. Proper c.after) }
     ensures along { AddsMaps (CommitsAlong rules.now loaded units.now results.now)
@@ -79,7 +80,8 @@ fn commit_each<V: Volume>(
     results: &[UnitResult],
 ) -> Result<Loaded, CommitFault>
     requires can { CanCommit rules.now loaded units.now results.now }
-    requires there { IfSome (V.disk volume.old) (λ d. AreReadyToMove rules.now.job.now (all_pairs results.now) d.files) }
+    requires there { IfSome (V.disk volume.old) (λ d. AreReadyToMove rules.now.job.now
+        (all_pairs results.now) d.files) }
     ensures value { IfOk result (LeadsToLast rules.now loaded units.now results.now) }
     ensures along { AddsMaps (CommitsAlong rules.now loaded units.now results.now)
         (V.disk volume.old) (V.disk volume.new) }
@@ -112,7 +114,8 @@ fn commit_datasets<V: Volume>(
 ) -> Result<Loaded, CommitFault>
     requires scope { rules.now.scope ≡ CommitScope.Dataset }
     requires can { CanCommit rules.now loaded units.now results.now }
-    requires there { IfSome (V.disk volume.old) (λ d. AreReadyToMove rules.now.job.now (all_pairs results.now) d.files) }
+    requires there { IfSome (V.disk volume.old) (λ d. AreReadyToMove rules.now.job.now
+        (all_pairs results.now) d.files) }
     ensures value { IfOk result (LeadsToLast rules.now loaded units.now results.now) }
     ensures along { AddsMaps (CommitsAlong rules.now loaded units.now results.now)
         (V.disk volume.old) (V.disk volume.new) }
@@ -150,16 +153,19 @@ fn commit_places<V: Volume>(
 ) -> Result<Loaded, CommitFault>
     requires counted { length results.now ≡ length units.now }
     requires within { All (λ p. p < length units.now) places.now }
-    requires can { CanCommit rules.now loaded (picked_items units.now places.now) (picked_items results.now places.now) }
+    requires can { CanCommit rules.now loaded (picked_items units.now places.now)
+        (picked_items results.now places.now) }
     requires there { IfSome (V.disk volume.old)
         (λ d. AreReadyToMove rules.now.job.now (all_pairs (picked_items results.now places.now)) d.files) }
     ensures value { IfOk result
         (LeadsToNext rules.now loaded (picked_items units.now places.now) (picked_items results.now places.now)) }
-    ensures rises { AddsMaps (GroupRises rules.now loaded (picked_items units.now places.now) (picked_items results.now places.now))
+    ensures rises { AddsMaps (GroupRises rules.now loaded (picked_items units.now places.now)
+        (picked_items results.now places.now))
         (V.disk volume.old) (V.disk volume.new) }
     ensures ok { IfOk result (λ after. AddsMaps (GroupEnds rules.now loaded (picked_items units.now places.now)
         (picked_items results.now places.now) after) (V.disk volume.old) (V.disk volume.new)) }
-    ensures rest { OnOk result (AddsMaps (LeavesStaging rules.now.job.now (all_pairs (picked_items results.now places.now)))
+    ensures rest { OnOk result (AddsMaps (LeavesStaging rules.now.job.now
+        (all_pairs (picked_items results.now places.now)))
         (V.disk volume.old) (V.disk volume.new)) }
     ensures below { Along (OnlyBelow (under rules.now.job.now [])) (V.disk volume.old) (V.disk volume.new) }
     ensures err { IfErr result (RoseIfFailed (V.faults volume.old) (V.faults volume.new)) }

@@ -34,7 +34,8 @@ pub(crate) fn commit_group<V: Volume>(
     results: &[UnitResult],
 ) -> Result<Loaded, CommitFault>
     requires can { CanCommit rules.now loaded units.now results.now }
-    requires there { IfSome (V.disk volume.old) (λ d. AreReadyToMove rules.now.job.now (all_pairs results.now) d.files) }
+    requires there { IfSome (V.disk volume.old) (λ d. AreReadyToMove rules.now.job.now
+        (all_pairs results.now) d.files) }
     ensures value { IfOk result (LeadsToNext rules.now loaded units.now results.now) }
     ensures rises { AddsMaps (GroupRises rules.now loaded units.now results.now)
         (V.disk volume.old) (V.disk volume.new) }

@@ -123,7 +123,8 @@ none_behind : (bs : List ℕ) (hi k : ℕ) → k + length bs ≤ hi → find (λ
 none_behind [] hi k a = refl
 none_behind (b ∷ bs) hi k high =
     let later = none_behind bs hi (suc k) (omega arith) in
-    elim (nat_eq b 10) as (λ v. find (λ e. nat_lt hi e) (cond v (suc k ∷ places (suc k) bs) (places (suc k) bs)) ≡ None) [
+    elim (nat_eq b 10) as (λ v. find (λ e. nat_lt hi e) (cond v (suc k ∷ places (suc k) bs) (places (suc k) bs))
+    ≡ None) [
       | true ↦ ap (λ t. cond t (Some (suc k)) (find (λ e. nat_lt hi e) (places (suc k) bs)))
           (isnt_behind hi (suc k) (omega arith)) ∙ later
       | false ↦ later

@@ -20,7 +20,8 @@ use Rattle.gob_meaning.specs.Formats.{value_data, members_of, json_record}
 use Rattle.gob_formats.specs.Escapes.{is_escaped, needs_escape}
 use Rattle.gob_formats.specs.declared.json_write.Member.{Member}
 use Rattle.gob_formats.specs.declared.json_write.Place.{Place}
-use Rattle.gob_formats.specs.Members.{Named, named_place, put_name, names_from, key_text, keyed_members, column_value, members_at}
+use Rattle.gob_formats.specs.Members.{Named, named_place, put_name, names_from, key_text, keyed_members, column_value}
+use Rattle.gob_formats.specs.Members.{members_at}
 use Rattle.gob_formats.specs.Members.{members_written}
 use Rattle.gob_formats.proofs.Kept.{not_true}
 
@@ -152,7 +153,8 @@ put_at_equal ps at p p' name index whole within is same becomes so_far =
     ∙ map-append named_place (take at ps) (p' ∷ drop (suc at) ps)
     ∙ ap (λ n. map named_place (take at ps) ++ named_place p' ∷ map named_place (drop n ps)) next
     ∙ ap (λ (q : Named). map named_place (take at ps) ++ q ∷ map named_place rest) becomes
-    ∙ ap (λ l. map named_place (take at ps) ++ l) (sym (put_equal name index (named_place p) (map named_place rest) same))
+    ∙ ap (λ l. map named_place (take at ps) ++ l) (sym (put_equal name index (named_place p)
+    (map named_place rest) same))
     ∙ ap (λ ds. map named_place (take at ps) ++ put_name name index (map named_place ds)) (sym here)
     ∙ so_far
 

@@ -12,7 +12,8 @@ ghost use Rattle.csv.specs.declared.parser.State.TheVariants as st;
 ghost use Rattle.gob_convert.specs.Made.{concatenation};
 ghost use Rattle.gob_meaning.specs.Formats.{row_of, field_values, csv_line_rows};
 ghost use Rattle.gob_formats.specs.Adding.{KeepsFront};
-ghost use Rattle.gob_formats.specs.Splits.{is_mark, is_plain_line, comma_fields, step, code_state, action_of, split_step};
+ghost use Rattle.gob_formats.specs.Splits.{is_mark, is_plain_line, comma_fields, step, code_state, action_of};
+ghost use Rattle.gob_formats.specs.Splits.{split_step};
 ghost use Rattle.gob_formats.specs.Rows.{rows_on, rows_after};
 
 use crate::fields::read_field;

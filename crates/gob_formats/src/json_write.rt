@@ -6,7 +6,8 @@ ghost use Rattle.serde_json.specs.Written.{compact_text};
 ghost use Rattle.gob_meaning.specs.Formats.{value_data};
 ghost use Rattle.gob_formats.specs.Adding.{KeepsFront};
 ghost use Rattle.gob_formats.specs.Escapes.{is_escaped, needs_escape};
-ghost use Rattle.gob_formats.specs.Members.{named_place, put_name, names_from, key_text, keyed_members, column_value, members_written};
+ghost use Rattle.gob_formats.specs.Members.{named_place, put_name, names_from, key_text, keyed_members, column_value};
+ghost use Rattle.gob_formats.specs.Members.{members_written};
 
 use crate::adding::{add, write_int};
 use gob_plan::{Bytes, Column, List, NoMemory, Value};

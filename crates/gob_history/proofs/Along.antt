@@ -237,10 +237,11 @@ mixed_on job a b name p = ap (λ v. cond v (a name) (b name)) p
 
 by_job : (job : List ℕ) (P : List ℕ → Type 0) (name : List ℕ) → (IsOfJob job name → P name)
     → ((IsOfJob job name → ⊥) → begins_with (under job []) name ≡ false → P name) → P name
-by_job job P name on off = elim (begins_with (under job []) name) as (λ b. begins_with (under job []) name ≡ b → P name) [
-  | true ↦ λ e. on e
-  | false ↦ λ e. off (λ t. let no : true ≡ false = sym t ∙ e in cc) e
-] refl
+by_job job P name on off = elim (begins_with (under job []) name) as
+    (λ b. begins_with (under job []) name ≡ b → P name) [
+      | true ↦ λ e. on e
+      | false ↦ λ e. off (λ t. let no : true ≡ false = sym t ∙ e in cc) e
+    ] refl
 
 mixed_off : (job : List ℕ) (a b : Files) (name : List ℕ) → begins_with (under job []) name ≡ false
     → mixed job a b name ≡ b name

@@ -151,7 +151,8 @@ only_made (out b p) content e some = cases (nat_eq b 0 && bytes_eq p []) refl e
 only_made (err b p) content e some = absurd (some (sym e))
 only_made bad content e some = absurd (some (sym e))
 
-bytes_are : (archive : Held) → HasTwoLines archive → bytes_of_range archive (codes "a.log") (record { lo = 0; hi = 4 }) ≡
+bytes_are : (archive : Held) → HasTwoLines archive → bytes_of_range archive (codes "a.log") (record { lo = 0; hi = 4 })
+    ≡
     codes "x\ny\n"
 unfolding bytes_from
 bytes_are archive at = ap (λ o. take 4 (drop 0 (unwrap_or o []))) at
@@ -181,11 +182,13 @@ expected_is archive name content at e =
     ap (λ (d : Done). slice_get (plain_pipeline ∷ []) d.pipeline) range ∙ e.of_state in cc in
     let plan : e.plan ≡ without_rules plain_plan = let h : Some e.plan ≡ Some (without_rules plain_plan) =
     sym e.of_pipeline ∙ (ap plan_of (sym pipe) ∙ plain_has) in cc in
-    let one : IsMade e.plan (codes "a.log") e.done.span (bytes_of_range archive (codes "a.log") e.done.span) e.path content =
+    let one : IsMade e.plan (codes "a.log") e.done.span
+    (bytes_of_range archive (codes "a.log") e.done.span) e.path content =
     subst (λ q. IsMade e.plan q e.done.span (bytes_of_range archive q e.done.span) e.path content) part.0 e.made in
     let two : IsMade e.plan (codes "a.log") (record { lo = 0; hi = 4 })
     (bytes_of_range archive (codes "a.log") (record { lo = 0; hi = 4 })) e.path content =
-    subst (λ (d : Done). IsMade e.plan (codes "a.log") d.span (bytes_of_range archive (codes "a.log") d.span) e.path content)
+    subst (λ (d : Done). IsMade e.plan (codes "a.log") d.span
+    (bytes_of_range archive (codes "a.log") d.span) e.path content)
     (sym range) one in
     let made : IsMade plain_plan (codes "a.log") (record { lo = 0; hi = 4 }) (codes "x\ny\n") e.path content =
     subst (λ b. IsMade plain_plan (codes "a.log") (record { lo = 0; hi = 4 }) b e.path content) (bytes_are archive at)
@@ -414,7 +417,8 @@ published_once name content u =
     let one : the_unit ≡ u.unit = only (subst (λ js. Contains js u.unit) units_done u.of_units) in
     let made : IsMade plain_plan (codes "a.log") (record { lo = 0; hi = 4 })
     (bytes_of_range two_lines (codes "a.log") (record { lo = 0; hi = 4 })) u.path content =
-    subst (λ (j : Judged). IsMade plain_plan j.0.part (span_of j.0) (bytes_of_range two_lines j.0.part (span_of j.0)) u.path
+    subst (λ (j : Judged). IsMade plain_plan j.0.part (span_of j.0)
+    (bytes_of_range two_lines j.0.part (span_of j.0)) u.path
     content) (sym one) u.made in
     let read : IsMade plain_plan (codes "a.log") (record { lo = 0; hi = 4 }) (codes "x\ny\n") u.path content =
     subst (λ b. IsMade plain_plan (codes "a.log") (record { lo = 0; hi = 4 }) b u.path content)

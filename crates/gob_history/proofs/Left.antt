@@ -64,7 +64,8 @@ record Base (job : List ℕ) (archive : Held) (s : State) (settled : Files) : Ty
   files : PublishesExactly job archive s settled
   parts : (part : List ℕ) (m : Marks) → marks_at s part ≡ Some m → ProperPart part m
 
-nothing_at : (ks : List ℕ) (i : ℕ) → unwrap_or (slice_get (map (λ _. no_branch_counts) ks) i) no_branch_counts ≡ no_branch_counts
+nothing_at : (ks : List ℕ) (i : ℕ) → unwrap_or (slice_get (map (λ _. no_branch_counts) ks) i) no_branch_counts
+    ≡ no_branch_counts
 nothing_at [] i = refl
 nothing_at (k ∷ ks) zero = refl
 nothing_at (k ∷ ks) (suc i) = nothing_at ks i
@@ -499,7 +500,8 @@ groups_sound job archive held settled n o gs tells stores sound groups left = ca
                     (λ x. inr (
                       (base.files name content p).1 x,
                       λ other u.
-                          names_differ job archive held s settled gs name content other tells base groups end.tiled proper
+                          names_differ job archive held s settled gs name content other tells base groups end.tiled
+                          proper
                           x u,
                     ))
                     (λ u. inl (publishes_from job archive held done name content each u))

@@ -39,7 +39,8 @@ use Rattle.gob_ledger.specs.Delta.{Kept, KeepsAs, StateFollows, base_alone, chan
 use Rattle.gob_ledger.specs.Delta.{state_of}
 use Rattle.gob_ledger.specs.Groups.{groups_of}
 use Rattle.gob_ledger.specs.Turns.{own_pulls, turns_of, verdicts_of}
-use Rattle.gob_ledger.specs.Examples.{range_done, fresh, job, lines_written, one_line, plain_state, span, two_done, two_lines}
+use Rattle.gob_ledger.specs.Examples.{range_done, fresh, job, lines_written, one_line, plain_state, span, two_done}
+use Rattle.gob_ledger.specs.Examples.{two_lines}
 use Rattle.gob_ledger.proofs.Cutting.{units_fit}
 use Rattle.gob_ledger.proofs.Following.{follows_next}
 use Rattle.gob_ledger.proofs.OneState.{keeps_one}
@@ -149,7 +150,8 @@ only_published : (held : Held) (lo hi : ℕ) (bytes file : List ℕ) → OfLine 
 only_published held lo hi bytes file o name content u =
     let one : line_unit lo hi ≡ u.unit = only_unit (line_unit lo hi) u.unit u.of_units in
     let made : IsMade plain_plan a_log (span lo hi) (bytes_of_range held a_log (span lo hi)) u.path content = subst
-    (λ (j : Judged). IsMade plain_plan j.0.part (span_of j.0) (bytes_of_range held j.0.part (span_of j.0)) u.path content)
+    (λ (j : Judged). IsMade plain_plan j.0.part (span_of j.0)
+    (bytes_of_range held j.0.part (span_of j.0)) u.path content)
     (sym one) u.made in
     let is = only_out lo bytes o.goes made.target content
     (ap (λ b. sends lo b made.target) (sym o.here) ∙ made.sends) made.some in

@@ -67,7 +67,8 @@ rules_value rules.Scope d r v = refl
 
 pub draft_field : (which : Field) (f : PlanField) (old new : DraftHeld) (r : keys.RunRules) (v : List ℕ)
     (result : Result (Unit {0}) ValueFault) → which ≡ field.Plan f → ReadsField f old new v result
-    → ReadsValue (λ _. in_draft r (draft_from new)) result (read_value (reader_of which) (in_draft r (draft_from old)) v)
+    → ReadsValue (λ _. in_draft r (draft_from new)) result
+    (read_value (reader_of which) (in_draft r (draft_from old)) v)
 draft_field which f old new r v result is read =
     subst (λ w. ReadsValue (λ _. in_draft r (draft_from new)) result
     (read_value (reader_of w) (in_draft r (draft_from old)) v)) (sym is)
@@ -76,7 +77,8 @@ draft_field which f old new r v result is read =
 
 pub rules_field : (which : Field) (f : RulesField) (d : keys.Draft) (old new : RulesHeld) (v : List ℕ)
     (result : Result (Unit {0}) ValueFault) → which ≡ field.Rules f → ReadsRule f d.plan old new v result
-    → ReadsValue (λ _. in_rules d (rules_from new)) result (read_value (reader_of which) (in_rules d (rules_from old)) v)
+    → ReadsValue (λ _. in_rules d (rules_from new)) result
+    (read_value (reader_of which) (in_rules d (rules_from old)) v)
 rules_field which f d old new v result is read =
     subst (λ w. ReadsValue (λ _. in_rules d (rules_from new)) result
     (read_value (reader_of w) (in_rules d (rules_from old)) v)) (sym is)

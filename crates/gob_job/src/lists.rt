@@ -50,7 +50,8 @@ fn each_named<T: Copy>(
     table: &[Named<T>],
     elements: &[&[u8]],
 ) -> Result<Option<List<T>>, NoMemory>
-    ensures { IfOk result (λ found. found ≡ each_read (at_name (map word_and_value table.now)) (texts_of elements.now)) }
+    ensures { IfOk result (λ found. found ≡ each_read (at_name (map word_and_value table.now))
+        (texts_of elements.now)) }
 {
     let mut values = List::new(alloc);
     for element in elements {
@@ -277,7 +278,8 @@ fn worded_place(alloc: Global, words: &[&[u8]]) -> Result<Option<PlaceSpec>, NoM
 
 // What a folder is made of must be a column of integers.
 fn check_placed(alloc: Global, place: &PlaceSpec, columns: &[Column]) -> Result<(), StepFault>
-    ensures { TakesElement (λ _. place.now) result (unless_some_refusal place.now (plans.place_refusal place.now columns.now)) }
+    ensures { TakesElement (λ _. place.now) result (unless_some_refusal place.now
+        (plans.place_refusal place.now columns.now)) }
 {
     let PlaceSpec::Day { column } = place else {
         return Ok(());

@@ -45,7 +45,8 @@ use Rattle.gob_meaning.specs.Plans.{counter_fits, rule_fits}
 use Rattle.gob_jobs.specs.Words.{and_then, value_map, fault_map, both, only_if, each_read, each_or_fault, is_empty}
 use Rattle.gob_jobs.specs.Words.{pieces, elements, few_elements, words_of, number_within}
 use Rattle.gob_jobs.specs.Elements.{Form, form_in, worded_test, check_of_kind, test_of_kind, test_over, test_read}
-use Rattle.gob_jobs.specs.Elements.{step_forms, accepted_step, step_over, step_read, steps_read, place_forms, unit_counters}
+use Rattle.gob_jobs.specs.Elements.{step_forms, accepted_step, step_over, step_read, steps_read, place_forms}
+use Rattle.gob_jobs.specs.Elements.{unit_counters}
 use Rattle.gob_jobs.specs.Elements.{branch_counters, branch_counter, counter_read, range_words, share_words}
 use Rattle.gob_jobs.specs.Elements.{rule_is_right, rule_forms, rule_read}
 use Rattle.gob_jobs.specs.KeyTable.{ValueFault, refused, bad_count, known_value, unless_refused, list_read, formats}
@@ -144,7 +145,8 @@ pub tests_listed_fit : (columns : List Column) (value : List ℕ) (ts : List Tes
     → tests_listed columns value ≡ Ok ts → (tests_fit columns ts ≡ true) × (nat_le (length ts) 16 ≡ true)
 unfolding tests_listed
 tests_listed_fit columns value ts is =
-    let p = then_ok (λ es. fault_map refused (each_or_fault (test_read columns) es)) (known_value (few_elements 16 59 value))
+    let p = then_ok (λ es. fault_map refused (each_or_fault (test_read columns) es))
+    (known_value (few_elements 16 59 value))
     ts is in
     let q = tests_of columns p.0 ts (fault_ok refused (each_or_fault (test_read columns) p.0) ts p.2) in
     (q.0, ap (λ n. nat_le n 16) q.1 ∙ few_known 16 59 value p.0 p.1)
@@ -337,7 +339,8 @@ pub place_read_fits : (columns : List Column) (value : List ℕ) (s : PlaceSpec)
     → place_fits s columns ≡ true
 unfolding place_read
 place_read_fits columns value s is =
-    let p = then_ok (λ g. unless_refused (place_refusal g columns) g) (known_value (form_in place_forms (words_of value))) s is
+    let p = then_ok (λ g. unless_refused (place_refusal g columns) g)
+    (known_value (form_in place_forms (words_of value))) s is
     in
     let q = unrefused (place_refusal p.0 columns) p.0 s p.2 in
     ap (λ g. place_fits g columns) (sym q.1) ∙ ap is_none q.0

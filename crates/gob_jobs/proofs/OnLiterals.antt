@@ -27,7 +27,8 @@ use Rattle.gob_jobs.specs.Plans.{plan_told, plan_of}
 
 unfoldable pub on_literals : ⊤
 unfolding encode natural_from goes_on logical_from key_part value_part code_unit first_character read_characters
-    key_value_of all_entries properties_of digits is_utf8 chars escape_of percent_encode_byte percent_decode is_column_name
+    key_value_of all_entries properties_of digits is_utf8 chars escape_of percent_encode_byte percent_decode
+    is_column_name
     number_read integer_read is_columns columns_after without_blanks pieces elements words_of value_word number_within
     worded_test test_read step_read steps_read counter_read rule_read columns_read fork_tests steps_listed
     tests_listed modes_listed format_read place_read rules_listed schedule_read value_of_row read_row

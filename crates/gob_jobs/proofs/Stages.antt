@@ -16,7 +16,8 @@ use Rattle.gob_bytes.specs.Tables.{at_name}
 use Rattle.gob_meaning.specs.Steps.{first_refused, columns_through}
 use Rattle.gob_meaning.specs.Plans.{reads_columns, writes_columns, place_fits, branch_fits, branch_is_short}
 use Rattle.gob_jobs.specs.Words.{and_then, value_map, only_if, number_within}
-use Rattle.gob_jobs.specs.KeyTable.{Draft, ValueFault, Reader, known_value, into_plan, into_branch, formats, truths, forks}
+use Rattle.gob_jobs.specs.KeyTable.{Draft, ValueFault, Reader, known_value, into_plan, into_branch, formats, truths}
+use Rattle.gob_jobs.specs.KeyTable.{forks}
 use Rattle.gob_jobs.specs.KeyTable.{row_modes, columns_read, source_columns, shared_columns, branch_columns}
 use Rattle.gob_jobs.specs.KeyTable.{steps_listed, tests_listed, shared_steps, fork_tests, branch_test, branch_steps}
 use Rattle.gob_jobs.specs.KeyTable.{strict_policy, row_policies, modes_listed, with_modes, row_policy_modes}

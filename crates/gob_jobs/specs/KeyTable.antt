@@ -319,7 +319,8 @@ row_policy_modes =
 
 -- the format of a branch with these columns
 unfoldable pub format_read : List Column → List ℕ → Result Format ValueFault
-format_read columns value = and_then (λ f. unless_refused (write_refusal f columns) f) (known_value (at_name formats value))
+format_read columns value = and_then (λ f. unless_refused (write_refusal f columns) f)
+    (known_value (at_name formats value))
 
 abbrev pub branch_format : Reader
 branch_format = into_branch (λ d value. format_read (branch_columns d) value) (λ f branch. record branch { format = f })

@@ -194,7 +194,8 @@ default_text needed_unless_all = []
 
 -- the value that a row has in the pipeline text: the one that counts, or that of an absent key
 abbrev pub spelled_value : LookUp → Row → ℕ → List ℕ
-spelled_value look row b = unwrap_or (option_map without_blanks (look (key_that_counts look row b))) (default_text row.need)
+spelled_value look row b = unwrap_or (option_map without_blanks (look (key_that_counts look row b)))
+    (default_text row.need)
 
 -- a row's setting in a branch
 abbrev pub setting_of_row : LookUp → ℕ → Row → Setting

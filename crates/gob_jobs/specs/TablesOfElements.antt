@@ -382,7 +382,8 @@ repeated_text n separator text = codes text ++ repeat n (codes separator ++ code
 
 -- 64 numbers and one more
 abbrev pub LongestSchedule : Type 0
-LongestSchedule = AllAre (λ n. option_map length (schedule_read (repeated_text n "," "7"))) ((63, Some 64) ∷ (64, None) ∷ [])
+LongestSchedule = AllAre (λ n. option_map length (schedule_read (repeated_text n "," "7")))
+    ((63, Some 64) ∷ (64, None) ∷ [])
 
 -- as many elements as may stand, and one more
 abbrev pub LongestLists : Type 0

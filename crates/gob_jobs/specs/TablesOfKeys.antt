@@ -95,7 +95,11 @@ full_plan = record {
   };
   branches = record {
     steps = step.Keep (codes "a" ∷ []) ∷ [];
-    policies = record { test = column_test false "a" (check.Compare how.Eq (value.Text (codes "x"))); mode = mode.Optional }
+    policies = record {
+      test = column_test false "a" (check.Compare how.Eq (value.Text (codes "x")));
+      mode =
+          mode.Optional;
+    }
         ∷ record { test = column_test false "a" check.Null; mode = mode.Fail }
         ∷ record { test = column_test true "a" check.Null; mode = mode.ErrFile }
         ∷ [];
@@ -188,7 +192,8 @@ EmptyValues = AllRead fault_in (
 
 -- whole lines, read and written, and this value at this key
 abbrev pub lines_with : List ℕ → List ℕ → Option JobFault
-lines_with key text = job_fault_of ((key, text) ∷ key_value "source.format" "lines" ∷ key_value "writer.format" "lines" ∷ [])
+lines_with key text = job_fault_of ((key, text) ∷ key_value "source.format" "lines" ∷ key_value "writer.format" "lines"
+    ∷ [])
 
 -- the key takes the numbers from the first to the last, and none past them
 abbrev pub takes_from_to : String × ℕ × ℕ → List (Option JobFault)
@@ -322,22 +327,29 @@ Policies = AllAre lines_and ((
       Some (bad_policy_count (codes "qualitychecker.row.policy.types.0")),
     )
     ∷ (
-      key_value "qualitychecker.row.policies" "null line" ∷ key_value "qualitychecker.row.policy.types" "FAIL,OPTIONAL" ∷ [],
+      key_value "qualitychecker.row.policies" "null line" ∷ key_value "qualitychecker.row.policy.types" "FAIL,OPTIONAL"
+          ∷ [],
       Some (bad_policy_count (codes "qualitychecker.row.policy.types")),
     )
     ∷ (
-      key_value "qualitychecker.row.policies" "null line" ∷ key_value "qualitychecker.row.policy.types" "FAIL,fail" ∷ [],
+      key_value "qualitychecker.row.policies" "null line" ∷ key_value "qualitychecker.row.policy.types" "FAIL,fail"
+          ∷ [],
       Some (bad_value (codes "qualitychecker.row.policy.types")),
     )
     ∷ (
-      key_value "qualitychecker.row.policies" "null line; null zz" ∷ key_value "qualitychecker.row.policy.types" "fail" ∷ [],
+      key_value "qualitychecker.row.policies" "null line; null zz" ∷ key_value "qualitychecker.row.policy.types" "fail"
+          ∷ [],
       Some (no_column (codes "qualitychecker.row.policies") (codes "zz")),
     )
     ∷ (
       key_value "qualitychecker.row.policies" "null zz; null" ∷ [],
       Some (no_column (codes "qualitychecker.row.policies") (codes "zz")),
     )
-    ∷ (key_value "qualitychecker.row.policies" "null zz; ;" ∷ [], Some (bad_value (codes "qualitychecker.row.policies")))
+    ∷ (
+      key_value "qualitychecker.row.policies" "null zz; ;" ∷ [],
+      Some
+          (bad_value (codes "qualitychecker.row.policies")),
+    )
     ∷ (
       key_value "qualitychecker.task.policies" "range records 2 9; share bad records 0" ∷ key_value
           "qualitychecker.task.policy.types" "FAIL,OPTIONAL" ∷ [],
@@ -348,7 +360,8 @@ Policies = AllAre lines_and ((
       Some (bad_policy_count (codes "qualitychecker.task.policy.types")),
     )
     ∷ (
-      key_value "qualitychecker.task.policies" "range records 2 9" ∷ key_value "qualitychecker.task.policy.types" "ERR_FILE" ∷
+      key_value "qualitychecker.task.policies" "range records 2 9"
+          ∷ key_value "qualitychecker.task.policy.types" "ERR_FILE" ∷
           [],
       Some (bad_value (codes "qualitychecker.task.policy.types")),
     )
@@ -357,7 +370,8 @@ Policies = AllAre lines_and ((
       Some (bad_value (codes "qualitychecker.task.policies")),
     )
     ∷ (
-      key_value "qualitychecker.task.policies" "range written.1 2 9" ∷ key_value "qualitychecker.task.policy.types" "FAIL" ∷
+      key_value "qualitychecker.task.policies" "range written.1 2 9"
+          ∷ key_value "qualitychecker.task.policy.types" "FAIL" ∷
           key_value "fork.branches" "2" ∷ [],
       None,
     )
@@ -365,20 +379,29 @@ Policies = AllAre lines_and ((
 
 -- the key of a branch goes before that of all branches; only what counts is read
 abbrev pub BranchKeys : Type 0
-BranchKeys = AllAre job_fault_of (
-    (key_value "source.format" "lines" ∷ key_value "writer.format" "${x}" ∷ key_value "writer.format.0" "csv" ∷ [], None)
+BranchKeys = AllAre job_fault_of ((
+  key_value "source.format" "lines" ∷ key_value "writer.format" "${x}" ∷ key_value "writer.format.0" "csv"
+      ∷ [],
+  None,
+)
     ∷ (
       key_value "source.format" "lines" ∷ key_value "writer.format" "csv" ∷ key_value "writer.format.0" "${x}" ∷ [],
       Some (interpolation (codes "writer.format.0")),
     )
-    ∷ (key_value "source.format" "lines" ∷ key_value "writer.format" "csv" ∷ key_value "writer.format.1" "${x}" ∷ [], None)
     ∷ (
-      key_value "source.format" "lines" ∷ key_value "writer.format" "xml" ∷ key_value "fork.branches" "2" ∷ key_value "writer.format.0"
+      key_value "source.format" "lines" ∷ key_value "writer.format" "csv" ∷ key_value "writer.format.1" "${x}"
+          ∷ [],
+      None,
+    )
+    ∷ (
+      key_value "source.format" "lines" ∷ key_value "writer.format" "xml" ∷ key_value "fork.branches" "2"
+          ∷ key_value "writer.format.0"
           "csv" ∷ [],
       Some (bad_value (codes "writer.format")),
     )
     ∷ (
-      key_value "source.format" "lines" ∷ key_value "writer.format" "csv" ∷ key_value "fork.test" "${x}" ∷ key_value "job.title" "${x}"
+      key_value "source.format" "lines" ∷ key_value "writer.format" "csv" ∷ key_value "fork.test" "${x}"
+          ∷ key_value "job.title" "${x}"
           ∷ [],
       None,
     )
@@ -387,17 +410,20 @@ BranchKeys = AllAre job_fault_of (
       Some (bad_kind (codes "writer.placer") (codes "line")),
     )
     ∷ (
-      key_value "source.format" "lines" ∷ key_value "writer.format" "csv" ∷ key_value "converter.classes" "cast line int" ∷ key_value
+      key_value "source.format" "lines" ∷ key_value "writer.format" "csv"
+          ∷ key_value "converter.classes" "cast line int" ∷ key_value
           "converter.classes.0" "rename line n" ∷ key_value "writer.placer.0" "day n" ∷ [],
       None,
     )
     ∷ (
-      key_value "source.format" "lines" ∷ key_value "writer.format" "csv" ∷ key_value "converter.classes" "rename line n" ∷ key_value
+      key_value "source.format" "lines" ∷ key_value "writer.format" "csv"
+          ∷ key_value "converter.classes" "rename line n" ∷ key_value
           "fork.operator.class" "each" ∷ key_value "fork.test.0" "null line" ∷ [],
       Some (no_column (codes "fork.test.0") (codes "line")),
     )
     ∷ (
-      key_value "source.format" "lines" ∷ key_value "writer.format" "lines" ∷ key_value "converter.classes.0" "copy line n" ∷ [],
+      key_value "source.format" "lines" ∷ key_value "writer.format" "lines"
+          ∷ key_value "converter.classes.0" "copy line n" ∷ [],
       Some (bad_kind (codes "writer.format") (codes "n")),
     )
     ∷ [])
@@ -424,7 +450,8 @@ UnknownKeys = let keys : Table (List ℕ) = map (λ row. (row.key, [])) key_tabl
     AllAre (λ (branches : Table (List ℕ)). unknown_keys (branches ++ keys)) ((
       [],
       codes "fork.test" ∷ map (λ row. row.key ++ codes ".1") branch_rows
-          ++ codes "writer.format.00" ∷ codes "writer.format." ∷ codes "task.slots.0" ∷ codes "data.publisher.final.dir" ∷
+          ++ codes "writer.format.00" ∷ codes "writer.format." ∷ codes "task.slots.0"
+          ∷ codes "data.publisher.final.dir" ∷
           [] ∷ codes "writer.format.2" ∷ [],
     )
     ∷ (
@@ -440,13 +467,15 @@ UnknownKeys = let keys : Table (List ℕ) = map (λ row. (row.key, [])) key_tabl
     ∷ (
       key_value "fork.branches" "9" ∷ [],
       codes "fork.test" ∷ map (λ row. row.key ++ codes ".1") branch_rows
-          ++ codes "writer.format.00" ∷ codes "writer.format." ∷ codes "task.slots.0" ∷ codes "data.publisher.final.dir" ∷
+          ++ codes "writer.format.00" ∷ codes "writer.format." ∷ codes "task.slots.0"
+          ∷ codes "data.publisher.final.dir" ∷
           [] ∷ codes "writer.format.2" ∷ [],
     )
     ∷ (
       key_value "fork.branches" "0" ∷ [],
       codes "fork.test" ∷ map (λ row. row.key ++ codes ".1") branch_rows
-          ++ codes "writer.format.00" ∷ codes "writer.format." ∷ codes "task.slots.0" ∷ codes "data.publisher.final.dir" ∷
+          ++ codes "writer.format.00" ∷ codes "writer.format." ∷ codes "task.slots.0"
+          ∷ codes "data.publisher.final.dir" ∷
           [] ∷ codes "writer.format.2" ∷ [],
     )
     ∷ [])

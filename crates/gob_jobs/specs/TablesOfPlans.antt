@@ -197,7 +197,8 @@ WebTier = job_in_file (codes "clicks") web_tier ≡ Ok (Ok (record {
     fork = record {
       how = fork_how.First;
       branches = 2;
-      tests = column_test false "status" (check.Compare how.Ge (value.Int (pos 400))) ∷ column_test true "status" check.Null ∷ [];
+      tests = column_test false "status" (check.Compare how.Ge (value.Int (pos 400)))
+          ∷ column_test true "status" check.Null ∷ [];
     };
     branches = record {
       steps = step.Keep (codes "status" ∷ codes "path" ∷ []) ∷ [];
@@ -254,11 +255,16 @@ Scores = option_map {U = Plan × TurnRules} (λ (j : Job). (j.plan, j.turns)) (r
         fork = record {
           how = fork_how.First;
           branches = 2;
-          tests = column_test false "score" (check.Compare how.Ge (value.Int (pos 5))) ∷ column_test true "id" check.Null ∷ [];
+          tests = column_test false "score" (check.Compare how.Ge (value.Int (pos 5)))
+              ∷ column_test true "id" check.Null ∷ [];
         };
         branches = record {
           steps = [];
-          policies = record { test = column_test true "score" (check.Compare how.Eq (value.Int (pos 9))); mode = mode.ErrFile }
+          policies = record {
+            test = column_test true "score"
+                (check.Compare how.Eq (value.Int (pos 9)));
+            mode = mode.ErrFile;
+          }
               ∷ [];
           format = format.Csv;
           place = place.Plain;

@@ -243,10 +243,11 @@ rising_under {X} p (e ∷ es) low rising = elim (p e) as (λ b. IsInByteOrder
 pub rising_filter : {X : Type 0} (p : List ℕ × X → Bool) (t : Table X) → IsInByteOrder (names_of t)
     → IsInByteOrder (names_of (filter p t))
 rising_filter p [] rising = tt
-rising_filter p (e ∷ es) rising = elim (p e) as (λ b. IsInByteOrder (names_of (cond b (e ∷ filter p es) (filter p es)))) [
-  | true ↦ rising_under p es e.0 rising
-  | false ↦ rising_filter p es (rising_tail e.0 (names_of es) rising)
-]
+rising_filter p (e ∷ es) rising = elim (p e) as (λ b. IsInByteOrder
+    (names_of (cond b (e ∷ filter p es) (filter p es)))) [
+      | true ↦ rising_under p es e.0 rising
+      | false ↦ rising_filter p es (rising_tail e.0 (names_of es) rising)
+    ]
 
 below_all : {X : Type 0} (t : Table X) (low : List ℕ) (e : List ℕ × X) → IsInByteOrder (low ∷ names_of t) → Contains t e
     → name_cmp low e.0 ≡ Less

@@ -95,7 +95,8 @@ padded_order (suc k) m n less small =
 pub change_order : (job : List ℕ) (m n : ℕ) → m < n → n < 2 ^ 64 → name_cmp (delta_name job m) (delta_name job n) ≡ Less
 unfolding offset
 change_order job m n less small =
-    behind_front (delta_folder job) (padded_digits 20 m) (padded_digits 20 n) ∙ padded_order 20 m n less (omega (arith, small))
+    behind_front (delta_folder job) (padded_digits 20 m) (padded_digits 20 n) ∙ padded_order 20 m n less
+    (omega (arith, small))
 
 -- ---- names in order
 

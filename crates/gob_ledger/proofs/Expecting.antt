@@ -195,8 +195,10 @@ committed_expects job s pipeline plan archive name content all (d ∷ ds) tiled 
         let pipe : e.pipeline ≡ pipeline = cc in
         let plans : e.plan ≡ plan = let h : Some e.plan ≡ Some plan = sym e.of_pipeline ∙ (ap plan_of pipe ∙ is) in
         cc in
-        let made : IsMade plan u.0.0.part (span_of u.0.0) (bytes_of_range archive u.0.0.part (span_of u.0.0)) e.path content =
-        subst (λ p. IsMade p u.0.0.part (span_of u.0.0) (bytes_of_range archive u.0.0.part (span_of u.0.0)) e.path content)
+        let made : IsMade plan u.0.0.part (span_of u.0.0)
+        (bytes_of_range archive u.0.0.part (span_of u.0.0)) e.path content =
+        subst (λ p. IsMade p u.0.0.part (span_of u.0.0)
+        (bytes_of_range archive u.0.0.part (span_of u.0.0)) e.path content)
         plans
         (subst (λ (sp : Span). IsMade e.plan u.0.0.part sp (bytes_of_range archive u.0.0.part sp) e.path content)
         (sym (ap (λ (x : Done). x.span) same))

@@ -79,7 +79,8 @@ flat_map_alike f g (x ∷ xs) same = λ i. same x (first_in x xs x refl) i
     ++ flat_map_alike f g xs (λ y h. same y (later_in x xs y h)) i
 
 where_alike : (o : Option Plan) (archive later : Held) (part : List ℕ) (s : Span)
-    → bytes_of_range later part s ≡ bytes_of_range archive part s → counts_where o later part s ≡ counts_where o archive part s
+    → bytes_of_range later part s ≡ bytes_of_range archive part s → counts_where o later part s
+    ≡ counts_where o archive part s
 where_alike None archive later part s same = refl
 where_alike (Some plan) archive later part s same = ap (λ b. counts_of plan (unit_fold plan s.lo b)) same
 
@@ -93,7 +94,8 @@ counted_stays archive later s grows within tiled rising =
     (done_bytes_stay archive later s e.0 e.1 d grows within tiled (at_from_member s.parts e.0 e.1 rising h) k))))
 
 read_alike : (job : List ℕ) (s : State) (one other : Held) (name content : List ℕ)
-    (e : IsExpected job s one name content) → bytes_of_range one e.part e.done.span ≡ bytes_of_range other e.part e.done.span
+    (e : IsExpected job s one name content) → bytes_of_range one e.part e.done.span
+    ≡ bytes_of_range other e.part e.done.span
     → IsExpected job s other name content
 read_alike job s one other name content e same = record {
   part = e.part;

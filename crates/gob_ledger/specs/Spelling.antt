@@ -127,7 +127,8 @@ totals_text c =
 -- a file's first line and its run's, then what it holds, then its last line
 abbrev pub file_text : List ℕ → Version → ℕ → List ℕ → List ℕ
 file_text kind v run inner =
-    numbered_line kind (version_number v ∷ []) ++ numbered_line (codes "run") (run ∷ []) ++ inner ++ codes "end" ++ 10 ∷ []
+    numbered_line kind (version_number v ∷ []) ++ numbered_line (codes "run") (run ∷ []) ++ inner ++ codes "end" ++ 10
+    ∷ []
 
 unfoldable pub state_spelling : Version → State → List ℕ
 state_spelling v s =

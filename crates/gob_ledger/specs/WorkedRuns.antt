@@ -11,7 +11,8 @@ use Rattle.gob_ledger.specs.State.{State}
 use Rattle.gob_ledger.specs.Units.{units_of}
 use Rattle.gob_ledger.specs.Next.{next_state}
 use Rattle.gob_ledger.specs.Turns.{pulls_in, turns_of, verdicts_of}
-use Rattle.gob_ledger.specs.Examples.{after_a_kill, range_done, four_lines_each, fresh, in_turns, job, killed_unit, killing}
+use Rattle.gob_ledger.specs.Examples.{after_a_kill, range_done, four_lines_each, fresh, in_turns, job, killed_unit}
+use Rattle.gob_ledger.specs.Examples.{killing}
 use Rattle.gob_ledger.specs.Examples.{lines_written, nothing_yet, of_two_bytes, one_line, one_line_each, one_retry}
 use Rattle.gob_ledger.specs.Examples.{plain_state, pull, span, three_lines_twice, two_done, two_lines, with_a_kill}
 
@@ -80,7 +81,8 @@ eight_lines = fresh (codes "a") 0 8 ∷ fresh (codes "b") 0 8 ∷ []
 
 -- all eight lines are done
 abbrev pub eight_done : State
-eight_done = record (of_both (taken_marks 8 (range_done 0 8 ∷ []) []) (taken_marks 8 (range_done 0 8 ∷ []) [])) { totals = lines_written 8 }
+eight_done = record (of_both (taken_marks 8 (range_done 0 8 ∷ []) []) (taken_marks 8 (range_done 0 8 ∷ []) []))
+    { totals = lines_written 8 }
 
 -- the first three units of two partitions, a line each
 abbrev pub first_round : List WorkUnit
@@ -89,7 +91,8 @@ first_round = fresh (codes "a") 0 2 ∷ fresh (codes "b") 0 2 ∷ fresh (codes "
 -- the state after them
 abbrev pub after_first_round : State
 after_first_round =
-    let marks = of_both (taken_marks 4 (range_done 0 2 ∷ range_done 2 4 ∷ []) []) (taken_marks 2 (range_done 0 2 ∷ []) []) in
+    let marks = of_both (taken_marks 4 (range_done 0 2 ∷ range_done 2 4 ∷ []) [])
+    (taken_marks 2 (range_done 0 2 ∷ []) []) in
     record marks { totals = lines_written 3 }
 
 -- the state after the three that were left
@@ -150,7 +153,8 @@ pub record WorkedRuns : Type 0 where
       (good_lines 4 ∷ good_lines 4 ∷ []) eight_done
   pub fails_too_often : IsRun one_retry one_line_each (0 ∷ 1 ∷ []) nothing_yet two_units
       (pull (codes "b") 0 2 ∷ []) (failed Fault ∷ good_lines 1 ∷ [])
-      (record (of_both (taken_marks 2 [] ((0, 2) ∷ [])) (taken_marks 2 (range_done 0 2 ∷ []) [])) { totals = lines_written 1 })
+      (record (of_both (taken_marks 2 [] ((0, 2) ∷ [])) (taken_marks 2 (range_done 0 2 ∷ []) []))
+      { totals = lines_written 1 })
   pub one_failure_is_made_up : IsRun one_retry one_line_each (0 ∷ []) nothing_yet two_units
       (pull (codes "a") 0 2 ∷ pull (codes "b") 0 2 ∷ []) (good_lines 1 ∷ good_lines 1 ∷ [])
       (of_both (taken_marks 2 (range_done 0 2 ∷ []) []) (taken_marks 2 (range_done 0 2 ∷ []) []))

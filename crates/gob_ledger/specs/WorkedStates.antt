@@ -103,9 +103,11 @@ three_done = record after_a_kill {
 
 -- one partition's ranges before and after a commit
 pub record WorkedMarks : Type 0 where
-  pub owed : with_owed (span 6 8) kill_marks ≡ taken_marks 8 (range_done 0 2 ∷ range_done 4 6 ∷ []) ((2, 4) ∷ (6, 8) ∷ [])
+  pub owed : with_owed (span 6 8) kill_marks ≡ taken_marks 8 (range_done 0 2 ∷ range_done 4 6 ∷ [])
+      ((2, 4) ∷ (6, 8) ∷ [])
   pub first_owed : with_owed (span 0 3) no_marks ≡ taken_marks 3 [] ((0, 3) ∷ [])
-  pub finished : with_done 1 (span 2 4) kill_marks ≡ taken_marks 6 (range_done 0 2 ∷ done_by 2 4 1 ∷ range_done 4 6 ∷ []) []
+  pub finished : with_done 1 (span 2 4) kill_marks ≡ taken_marks 6
+      (range_done 0 2 ∷ done_by 2 4 1 ∷ range_done 4 6 ∷ []) []
   pub inserted : map (λ lo. map (λ d. d.span) (insert_done (range_done lo 9) (range_done 2 3 ∷ range_done 6 7 ∷ [])))
       (0 ∷ 2 ∷ 4 ∷ 6 ∷ 8 ∷ [])
       ≡ (span 0 9 ∷ span 2 3 ∷ span 6 7 ∷ []) ∷ (span 2 3 ∷ span 2 9 ∷ span 6 7 ∷ [])
@@ -167,7 +169,8 @@ pub record WorkedGroups : Type 0 where
       (scope.Dataset ∷ scope.Job ∷ [])
       ≡ (fresh (codes "b/x") 0 2 ∷ fresh (codes "b/y") 0 2 ∷ []) ∷ its_units three_judged ∷ []
   pub one_dataset_fails : chain Full nothing_yet
-      (groups_of scope.Dataset (judged_unit (codes "a/x") (failed (Kill 0 0 0)) ∷ judged_unit (codes "b/x") (good_lines 1) ∷ []))
+      (groups_of scope.Dataset (judged_unit (codes "a/x") (failed (Kill 0 0 0)) ∷ judged_unit (codes "b/x")
+      (good_lines 1) ∷ []))
       ≡ nothing_yet ∷ nothing_yet ∷ after_commits 1 (codes "b/x" ∷ []) ∷ []
   pub each_dataset : chain Successful nothing_yet (groups_of scope.Dataset servers_judged)
       ≡ nothing_yet ∷ after_commits 1 (codes "web1/c" ∷ []) ∷ after_commits 2 (codes "web1/c" ∷ codes "web2/c" ∷ [])

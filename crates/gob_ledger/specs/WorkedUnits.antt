@@ -90,10 +90,12 @@ pub record WorkedPartitions : Type 0 where
 -- the owed ranges first, and then as many new ones as there may be
 pub record WorkedOrder : Type 0 where
   pub owed_first : units_of_parts two_known three_held of_web
-      ≡ whole_owed_unit (codes "a") 0 2 false ∷ whole_owed_unit (codes "a") 4 6 false ∷ whole_owed_unit (codes "web/b") 2 4 true
+      ≡ whole_owed_unit (codes "a") 0 2 false ∷ whole_owed_unit (codes "a") 4 6 false ∷ whole_owed_unit
+      (codes "web/b") 2 4 true
       ∷ fresh (codes "web/b") 4 6 ∷ fresh (codes "web/c") 0 2 ∷ []
   pub more_at_once : units_of_parts two_known three_held (record of_web { max_new_units = 3; max_bytes = 4 })
-      ≡ whole_owed_unit (codes "a") 0 2 false ∷ whole_owed_unit (codes "a") 4 6 false ∷ whole_owed_unit (codes "web/b") 2 4 true
+      ≡ whole_owed_unit (codes "a") 0 2 false ∷ whole_owed_unit (codes "a") 4 6 false ∷ whole_owed_unit
+      (codes "web/b") 2 4 true
       ∷ fresh (codes "web/b") 4 8 ∷ fresh (codes "web/c") 0 4 ∷ fresh (codes "web/b") 8 10 ∷ []
   pub new_of_one : fresh_in (codes "web/b") (units_of_parts two_known three_held of_web)
       ≡ fresh (codes "web/b") 4 6 ∷ []

@@ -62,7 +62,8 @@ folder_push (a ∷ []) = refl
 folder_push (a ∷ b ∷ x) = folder_push (b ∷ x)
 
 date_placed : (date : Date) → is_folder (date_folder date) ≡ true
-date_placed date = folder_push (padded_digits 4 date.year ++ 47 ∷ padded_digits 2 date.month ++ 47 ∷ padded_digits 2 date.day)
+date_placed date = folder_push (padded_digits 4 date.year ++ 47 ∷ padded_digits 2 date.month ++ 47
+    ∷ padded_digits 2 date.day)
 
 day_placed : (v : Value) → is_folder (day_folder v) ≡ true
 day_placed value.Null = refl

@@ -40,7 +40,8 @@ last_second = 253402300799
 
 -- four, two and two digits, each with a '/'
 abbrev pub date_folder : Date → List ℕ
-date_folder date = padded_digits 4 date.year ++ 47 ∷ padded_digits 2 date.month ++ 47 ∷ padded_digits 2 date.day ++ 47 ∷ []
+date_folder date = padded_digits 4 date.year ++ 47 ∷ padded_digits 2 date.month ++ 47 ∷ padded_digits 2 date.day ++ 47
+    ∷ []
 
 -- where what has no day is placed
 abbrev pub no_day : List ℕ

@@ -19,10 +19,11 @@ less_greater x y e = nat_list_cmp_total.antisymm y x ∙ ap ordering_reverse e
 
 pub rank-le : {X : Type 0} (t : Table X) (name : List ℕ) → rank_of t name ≤ length t
 rank-le [] name = omega arith
-rank-le (e ∷ es) name = elim (is_gt (name_cmp name e.0)) as (λ b. cond b (suc (rank_of es name)) zero ≤ suc (length es)) [
-  | true ↦ omega (arith, rank-le es name)
-  | false ↦ omega arith
-]
+rank-le (e ∷ es) name = elim (is_gt (name_cmp name e.0)) as
+    (λ b. cond b (suc (rank_of es name)) zero ≤ suc (length es)) [
+      | true ↦ omega (arith, rank-le es name)
+      | false ↦ omega arith
+    ]
 
 ahead : {X : Type 0} (es : Table X) (low : List ℕ) (m : ℕ) (d : List ℕ × X) → IsInByteOrder (low ∷ names_of es)
     → m < length es → name_cmp low (get_or es m d).0 ≡ Less

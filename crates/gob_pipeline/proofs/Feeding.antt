@@ -75,7 +75,8 @@ pub line_passed : (plan : Plan) (old new : MachineValue) (chunk : List ℕ) (c :
     → old.stop ≡ Some c → MachineGoesOn old new (length chunk) false → new.stop ≡ old.stop → Fed plan old new chunk b b
 line_passed plan old new chunk c b one stopped on stop =
     subst (λ l. Fed plan old new l b b) (sym one.1)
-    (passed_fed plan old new one.0 c b one.2 stopped (subst (λ l. MachineGoesOn old new (length l) false) one.1 on) stop)
+    (passed_fed plan old new one.0 c b one.2 stopped (subst (λ l. MachineGoesOn old new (length l) false) one.1 on)
+    stop)
 
 pub line_ended : (plan : Plan) (old mid : State) (new : MachineValue) (chunk : List ℕ) (before after : Buffers)
     → IsOneLine chunk → old.tally.stop ≡ None → TakesEnd plan old mid chunk before after

@@ -16,7 +16,8 @@ use Rattle.gob_plan.specs.Rows.{conforms}
 use Rattle.gob_convert.specs.Made.{Made, concatenation, made_each}
 use Rattle.gob_meaning.specs.Items.{RowMade, made_in_branch}
 use Rattle.gob_branch.proofs.Joined.{bad_of_joined, made_next}
-use Rattle.gob_pipeline.specs.Routes.{AreNumberedBranches, RoutesValue, RowSent, branch_makes, is_routed, is_taken, route_makes}
+use Rattle.gob_pipeline.specs.Routes.{AreNumberedBranches, RoutesValue, RowSent, branch_makes, is_routed, is_taken}
+use Rattle.gob_pipeline.specs.Routes.{route_makes}
 use Rattle.gob_pipeline.specs.Routes.{specs_of, waiting_makes}
 
 -- the branch at a place: its number and its columns, and how its spec stands among the numbered specs

@@ -9,7 +9,8 @@ use Rattle.gob_bytes.specs.Tables.{Table, at_name, names_of, IsInByteOrder}
 use Rattle.gob_pipeline.proofs.Fronts.{map_front, front_kept, front_more, front_length}
 use Rattle.std.proofs.lemmas.List.{length-map, map-set}
 use Rattle.std.proofs.Math.ListN.{get_or-map}
-use Rattle.gob_pipeline.specs.Made.{Buffers, AreEmpty, IsSlot, AreSlotsFrom, emptied_table, emptied_place, is_place, slot_of}
+use Rattle.gob_pipeline.specs.Made.{Buffers, AreEmpty, IsSlot, AreSlotsFrom, emptied_table, emptied_place, is_place}
+use Rattle.gob_pipeline.specs.Made.{slot_of}
 use Rattle.gob_pipeline.specs.Made.{place_in}
 
 pub slot_at : {V : Type 0} (items : V → Table (List ℕ)) (start n : ℕ) (vs : List V) (d : V) →
@@ -69,7 +70,8 @@ place_step xs now i d bytes is none lt =
 
 -- one more slot without a byte
 pub slot_step : {V : Type 0} (items : V → Table (List ℕ)) (xs now : List V) (i : ℕ) (d v : V) →
-    map items now ≡ map_front emptied_table i (map items xs) → items v ≡ emptied_table (items (get_or now i d)) → i < length now →
+    map items now ≡ map_front emptied_table i (map items xs) → items v ≡ emptied_table (items (get_or now i d))
+    → i < length now →
     map items (set now i v) ≡ map_front emptied_table (i + 1) (map items xs)
 slot_step items xs now i d v is none lt =
     let short : i < length (map items xs) =

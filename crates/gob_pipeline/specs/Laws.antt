@@ -49,7 +49,8 @@ RestsAreFed = (plan : Plan) (old new : MachineValue) (x : List ℕ) (b : Buffers
 -- the end of a line behind the stop: it is passed over
 abbrev pub BytesBehindAStopAreFed : Type 0
 BytesBehindAStopAreFed = (plan : Plan) (old new : MachineValue) (x : List ℕ) (c : Cause) (b : Buffers)
-    → has_no_feed x ≡ true → old.stop ≡ Some c → MachineGoesOn old new (length (x ++ 10 ∷ [])) false → new.stop ≡ old.stop
+    → has_no_feed x ≡ true → old.stop ≡ Some c → MachineGoesOn old new (length (x ++ 10 ∷ [])) false → new.stop
+    ≡ old.stop
     → Fed plan old new (x ++ 10 ∷ []) b b
 
 -- ---- what is in the buffers

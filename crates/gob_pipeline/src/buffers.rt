@@ -1,7 +1,8 @@
 //! Buffers for what the lines of a piece send, one for each target.
 ghost use Rattle.std.specs.Prelude.{◌≡◌, ◌<◌, ◌+◌, ◌*◌, ◌^◌, [], ◌∷◌, true, length, map, Some, IfOk, OnErr, OnOk};
 ghost use Rattle.std.specs.List.{slice_get};
-ghost use Rattle.gob_pipeline.specs.Made.{AddsTo, AreEmpty, AreSlots, IsSlot, emptied_table, is_placed, no_places, place_in};
+ghost use Rattle.gob_pipeline.specs.Made.{AddsTo, AreEmpty, AreSlots, IsSlot, emptied_table, is_placed, no_places};
+ghost use Rattle.gob_pipeline.specs.Made.{place_in};
 ghost use Rattle.gob_pipeline.specs.Made.{slot_of};
 ghost use Rattle.gob_pipeline.specs.Made.{target_in, target_value};
 ghost use Rattle.gob_pipeline.specs.Taking.{with_bytes_at};

@@ -9,7 +9,8 @@ ghost use Rattle.gob_meaning.specs.Items.{RowMade};
 ghost use Rattle.gob_branch.specs.ItemSpans.{item_value};
 ghost use Rattle.gob_meaning.specs.Sums.{both_branches, branch_sums, sum_of};
 ghost use Rattle.gob_pipeline.specs.Made.{AddsTo};
-ghost use Rattle.gob_pipeline.specs.Taking.{TakesLine, counts_of_line, fold_of_items, item_fits, line_of_end, line_folds};
+ghost use Rattle.gob_pipeline.specs.Taking.{TakesLine, counts_of_line, fold_of_items, item_fits, line_of_end};
+ghost use Rattle.gob_pipeline.specs.Taking.{line_folds};
 ghost use Rattle.gob_pipeline.specs.Taking.{with_one_item};
 
 use crate::buffers::{Target, TargetBuffers};

@@ -58,7 +58,8 @@ value_there lent name columns values i fits same is =
     let at = found name columns i (ap (λ n. position_of n columns) (sym same) ∙ sym is) in
     subst (StandsAt name columns values) at.1 (stands_at name columns values fits at.0)
 
-pub no_kind : (name : List ℕ) (columns : List Column) → (length columns ≤ place name columns) → kind_of name columns ≡ None
+pub no_kind : (name : List ℕ) (columns : List Column) → (length columns ≤ place name columns) → kind_of name columns
+    ≡ None
 no_kind name [] above = refl
 no_kind name (c ∷ cs) above = either (bytes_eq c.name name) refl (no_kind name cs)
   where

@@ -64,7 +64,8 @@ line_put es es' l ls =
     ]
 
 -- a logical line that is malformed
-pub line_bad : (es : List KeyValue) (l : Logical) (ls : List Logical) (fault : PropsFault) → read_line es l ≡ Err fault →
+pub line_bad : (es : List KeyValue) (l : Logical) (ls : List Logical) (fault : PropsFault) → read_line es l ≡ Err fault
+    →
     with_all es (all_entries (l ∷ ls)) ≡ Err fault
 unfolding all_entries
 line_bad es l ls fault =
@@ -108,7 +109,8 @@ line_joined es number count line text lines after all passed joined reads =
     ap (λ ls. with_all es (all_entries ls)) (sym (logical_start number line lines passed ∙ joined)) ∙ reads
 
 -- nothing is left
-pub reads_end : (es : List KeyValue) (number : ℕ) (left : Option (Bor (List ℕ))) (all : Result (List KeyValue) PropsFault) →
+pub reads_end : (es : List KeyValue) (number : ℕ) (left : Option (Bor (List ℕ)))
+    (all : Result (List KeyValue) PropsFault) →
     left ≡ None → Reads es number (lines_left left) all → Ok es ≡ all
 unfolding logical_from all_entries
 reads_end es number left all none reads =

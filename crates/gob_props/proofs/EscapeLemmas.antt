@@ -7,7 +7,8 @@ use Rattle.std.specs.List.{list_all}
 use Rattle.std.specs.Char.{digit_value, is_digit}
 use Rattle.std.proofs.lemmas.Bool.{cond_both, cond-true, cond-false, and_left, and_right, and_from, lt-ltb, le-ltb}
 use Rattle.std.proofs.lemmas.List.{get_or_read}
-use Rattle.gob_props.specs.Properties.{is_backslash, Character, code_unit, escaped_unit, paired_character, coded_character, escape, is_high}
+use Rattle.gob_props.specs.Properties.{is_backslash, Character, code_unit, escaped_unit, paired_character}
+use Rattle.gob_props.specs.Properties.{coded_character, escape, is_high}
 use Rattle.gob_props.specs.Properties.{is_low, first_character, read_characters, without_escapes, paired_up}
 use Rattle.std.proofs.Math.Seq.{take-length}
 
@@ -97,7 +98,8 @@ paired_shorter high after (Some low) = cond_both (is_low low) _ _
     (λ (o : Option Character). IfSome o (λ x. length x.after ≤ length after)) (λ _. omega (arith, length-drop 6 after))
     (λ _. tt)
 
-coded_shorter : (after : List ℕ) (unit : Option ℕ) → IfSome (coded_character after unit) (λ x. length x.after ≤ length after)
+coded_shorter : (after : List ℕ) (unit : Option ℕ) → IfSome (coded_character after unit)
+    (λ x. length x.after ≤ length after)
 coded_shorter after None = tt
 coded_shorter after (Some unit) =
     cond_both (is_high unit) _ _ (λ (o : Option Character). IfSome o (λ x. length x.after ≤ length after))
@@ -140,7 +142,8 @@ read_enough (suc n) (suc m) (c ∷ cs) h k =
     (λ x short. ap (option_map (λ later. x.value ∷ later)) (read_enough n m x.after (omega arith) (omega arith)))
 
 pub unescaped_step : (c : ℕ) (cs : List ℕ) →
-    without_escapes (c ∷ cs) ≡ option_and_then (λ (x : Character). option_map (λ later. x.value ∷ later) (without_escapes x.after))
+    without_escapes (c ∷ cs) ≡ option_and_then (λ (x : Character). option_map (λ later. x.value ∷ later)
+    (without_escapes x.after))
     (first_character c cs)
 unfolding read_characters
 unescaped_step c cs =
@@ -191,7 +194,8 @@ step_some out out' left first c rest after all whole read wrote so_far =
     ∙ so_far
 
 pub step_none : (out left : List ℕ) (first : ℕ) (rest : List ℕ) (all : Option (List ℕ)) → left ≡ first ∷ rest →
-    None ≡ first_character first rest → option_map (λ cs. out ++ encode_utf8_all cs) (without_escapes left) ≡ all → None ≡ all
+    None ≡ first_character first rest → option_map (λ cs. out ++ encode_utf8_all cs) (without_escapes left) ≡ all
+    → None ≡ all
 step_none out left first rest all whole read so_far = sym (goes_to out left first rest None whole read) ∙ so_far
 
 pub step_end : (out left : List ℕ) (all : Option (List ℕ)) → length left < 1 →

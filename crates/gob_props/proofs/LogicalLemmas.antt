@@ -8,7 +8,8 @@ use Rattle.std.specs.List.{prefix_len, suffix_len}
 use Rattle.std.specs.Option.{is_some, option_to_list}
 use Rattle.std.proofs.lemmas.Bool.Decides.{nat_tests}
 use Rattle.std.proofs.lemmas.Bool.{cond-true, cond-false, true≢false}
-use Rattle.gob_props.specs.Properties.{is_backslash, is_white_space, without_white_space, goes_on, part_of, is_passed_over, Logical}
+use Rattle.gob_props.specs.Properties.{is_backslash, is_white_space, without_white_space, goes_on, part_of}
+use Rattle.gob_props.specs.Properties.{is_passed_over, Logical}
 use Rattle.gob_props.specs.Properties.{with_line, logical_from}
 use Rattle.gob_props.specs.Steps.{later_lines}
 
@@ -82,7 +83,8 @@ without_last old new text (Some c) same some there = without_item old new text c
 pub part_whole : (line : List ℕ) → goes_on line ≡ false → part_of line ≡ without_white_space line
 part_whole line whole = cond-false _ _ _ whole
 
-pub part_front : (line : List ℕ) → goes_on line ≡ true → part_of line ≡ take (length (without_white_space line) - 1) (without_white_space line)
+pub part_front : (line : List ℕ) → goes_on line ≡ true → part_of line ≡ take (length (without_white_space line) - 1)
+    (without_white_space line)
 part_front line more = cond-true _ _ _ more
 
 pub goes_on_some : (text : List ℕ) → goes_on text ≡ true → 0 < length text

@@ -14,14 +14,17 @@ use Rattle.std.proofs.Math.Seq.{take-length}
 use Rattle.std.proofs.lemmas.Bool.{cond-true, cond-false, eqb-true, or_parts, and_from}
 use Rattle.std.proofs.lemmas.List.{take-append-le, drop_at}
 use Rattle.std.proofs.lemmas.Str.{chars-encodes, is_utf8-from_IsUtf8}
-use Rattle.gob_props.specs.Properties.{is_line_end, natural_from, natural_lines, is_white_space, is_backslash, without_white_space}
+use Rattle.gob_props.specs.Properties.{is_line_end, natural_from, natural_lines, is_white_space, is_backslash}
+use Rattle.gob_props.specs.Properties.{without_white_space}
 use Rattle.gob_props.specs.Properties.{is_comment}
 use Rattle.gob_props.specs.Properties.{is_passed_over, goes_on, part_of, with_line, logical_from, is_key_end}
 use Rattle.gob_props.specs.Properties.{is_separator, key_length, without_mark, key_part, value_part, Character}
 use Rattle.gob_props.specs.Properties.{meaning_of}
-use Rattle.gob_props.specs.Properties.{first_character, without_escapes, paired_up, key_value_of, put_first, all_entries}
+use Rattle.gob_props.specs.Properties.{first_character, without_escapes, paired_up, key_value_of, put_first}
+use Rattle.gob_props.specs.Properties.{all_entries}
 use Rattle.gob_props.specs.Properties.{with_all, read_text, properties_of}
-use Rattle.gob_props.specs.Laws.{Written, needs_backslash, spelled_character, spelled_text, line_of, written_text, are_scalars}
+use Rattle.gob_props.specs.Laws.{Written, needs_backslash, spelled_character, spelled_text, line_of, written_text}
+use Rattle.gob_props.specs.Laws.{are_scalars}
 use Rattle.gob_props.specs.Laws.{in_bytes}
 use Rattle.gob_props.specs.Laws.{EntriesReadBack}
 use Rattle.gob_props.proofs.NaturalLemmas.{natural_cut}
@@ -148,14 +151,16 @@ clear : (cs rest : List ℕ) → NonePass is_line_end rest → NonePass is_line_
 clear [] rest none = none
 clear (c ∷ cs) rest none = step (spelling_of c) (clear cs rest none)
   where
-    step : Spelling c → NonePass is_line_end (spelled_text cs ++ rest) → NonePass is_line_end (spelled_text (c ∷ cs) ++ rest)
+    step : Spelling c → NonePass is_line_end (spelled_text cs ++ rest) → NonePass is_line_end
+        (spelled_text (c ∷ cs) ++ rest)
     step (by_letter letter e) more =
         subst (λ t. NonePass is_line_end (t ++ rest)) (sym (escaped_first c letter cs e)) (refl, (e.no_end, more))
     step (as_itself r) more =
         subst (λ t. NonePass is_line_end (t ++ rest)) (sym (raw_first c cs r)) (r.no_end, more)
 
 -- its characters are characters
-scalars_spelled : (cs rest : List ℕ) → scalars cs ≡ true → scalars rest ≡ true → scalars (spelled_text cs ++ rest) ≡ true
+scalars_spelled : (cs rest : List ℕ) → scalars cs ≡ true → scalars rest ≡ true → scalars (spelled_text cs ++ rest)
+    ≡ true
 scalars_spelled [] rest all more = more
 scalars_spelled (c ∷ cs) rest all more =
     step (spelling_of c) (and_left_true _ _ all) (scalars_spelled cs rest (and_right_true _ _ all) more)
@@ -189,7 +194,8 @@ key_ends (c ∷ cs) rest = step (spelling_of c) (key_ends cs rest)
         one n = omega arith
 
 -- it has no white space in front
-trim_front : (cs rest : List ℕ) → without_white_space rest ≡ rest → without_white_space (spelled_text cs ++ rest) ≡ spelled_text cs ++ rest
+trim_front : (cs rest : List ℕ) → without_white_space rest ≡ rest → without_white_space (spelled_text cs ++ rest)
+    ≡ spelled_text cs ++ rest
 trim_front [] rest plain = plain
 trim_front (c ∷ cs) rest plain = step (spelling_of c)
   where
@@ -254,7 +260,8 @@ meant (c ∷ cs) = step (spelling_of c) (meant cs)
         ∙ ap (option_and_then (λ (x : Character). option_map (λ l. x.value ∷ l) (without_escapes x.after))) one
         ∙ ap (option_map (λ l. c ∷ l)) more
 
-    step : Spelling c → without_escapes (spelled_text cs) ≡ Some cs → without_escapes (spelled_text (c ∷ cs)) ≡ Some (c ∷ cs)
+    step : Spelling c → without_escapes (spelled_text cs) ≡ Some cs → without_escapes (spelled_text (c ∷ cs)) ≡ Some
+        (c ∷ cs)
     step (by_letter letter e) more =
         read 92 (letter ∷ spelled_text cs) (escaped_first c letter cs e)
         (cond-false _ _ _ e.no_unit ∙ ap (λ v. Some (record { value = v; after = spelled_text cs })) e.meaning) more
@@ -264,7 +271,11 @@ meant (c ∷ cs) = step (spelling_of c) (meant cs)
 
 line_clear : (e : Written) → NonePass is_line_end (line_of e)
 line_clear e =
-    clear e.0 (61 ∷ spelled_text e.1) (refl, subst (NonePass is_line_end) (append-nil (spelled_text e.1)) (clear e.1 [] tt))
+    clear e.0 (61 ∷ spelled_text e.1) (
+      refl,
+      subst (NonePass is_line_end) (append-nil (spelled_text e.1))
+          (clear e.1 [] tt),
+    )
 
 line_trimmed : (e : Written) → without_white_space (line_of e) ≡ line_of e
 line_trimmed e = trim_front e.0 (61 ∷ spelled_text e.1) refl
@@ -284,15 +295,19 @@ key_is : (e : Written) → take (key_length false (line_of e)) (line_of e) ≡ s
 key_is e =
     let within : length (spelled_text e.0) ≤ length (spelled_text e.0) = omega arith in
     ap (λ n. take n (line_of e)) (key_ends e.0 (spelled_text e.1))
-    ∙ take-append-le (length (spelled_text e.0)) (spelled_text e.0) (61 ∷ spelled_text e.1) within ∙ take-length (spelled_text e.0)
+    ∙ take-append-le (length (spelled_text e.0)) (spelled_text e.0) (61 ∷ spelled_text e.1) within ∙ take-length
+    (spelled_text e.0)
 
 value_is : (e : Written) →
-    without_white_space (without_mark (without_white_space (drop (key_length false (line_of e)) (line_of e)))) ≡ spelled_text e.1
+    without_white_space (without_mark (without_white_space (drop (key_length false (line_of e)) (line_of e))))
+    ≡ spelled_text e.1
 value_is e =
-    ap (λ n. without_white_space (without_mark (without_white_space (drop n (line_of e))))) (key_ends e.0 (spelled_text e.1))
+    ap (λ n. without_white_space (without_mark (without_white_space (drop n (line_of e)))))
+    (key_ends e.0 (spelled_text e.1))
     ∙ ap (λ t. without_white_space (without_mark (without_white_space t)))
     (drop_at (spelled_text e.0) (61 ∷ spelled_text e.1) (length (spelled_text e.0)) refl)
-    ∙ ap without_white_space (sym (append-nil (spelled_text e.1))) ∙ trim_front e.1 [] refl ∙ append-nil (spelled_text e.1)
+    ∙ ap without_white_space (sym (append-nil (spelled_text e.1))) ∙ trim_front e.1 [] refl ∙ append-nil
+    (spelled_text e.1)
 
 entry_is : (e : Written) → key_value_of (line_of e) ≡ Some (in_bytes e)
 unfolding key_value_of key_part value_part
@@ -339,7 +354,8 @@ scalars_written (e ∷ es) all =
     ap scalars (append_assoc (line_of e) (10 ∷ []) (written_text es)
     ∙ append_assoc (spelled_text e.0) (61 ∷ spelled_text e.1) (10 ∷ written_text es))
     ∙ scalars_spelled e.0 (61 ∷ (spelled_text e.1 ++ 10 ∷ written_text es)) (and_left_true _ _ first)
-    (scalars_spelled e.1 (10 ∷ written_text es) (and_right_true _ _ first) (scalars_written es (and_right_true _ _ all)))
+    (scalars_spelled e.1 (10 ∷ written_text es) (and_right_true _ _ first)
+    (scalars_written es (and_right_true _ _ all)))
 
 pub read_back : EntriesReadBack
 unfolding properties_of

@@ -62,7 +62,8 @@ goes_on line = nat_eq (suffix_len is_backslash line % 2) 1
 -- what a natural line adds to its logical line: all but white space in front and the backslash that makes the next one
 -- go on
 abbrev pub part_of : List ℕ → List ℕ
-part_of line = cond (goes_on line) (take (length (without_white_space line) - 1) (without_white_space line)) (without_white_space line)
+part_of line = cond (goes_on line) (take (length (without_white_space line) - 1) (without_white_space line))
+    (without_white_space line)
 
 -- a logical line, and the number of the natural line that begins it
 pub record Logical : Type 0 where

@@ -10,7 +10,8 @@ use Rattle.std.specs.declared.result.Result.TheVariants.{Ok, Err}
 use Rattle.gob_props.specs.declared.fault.PropsFault.{PropsFault}
 use Rattle.gob_props.specs.declared.fault.PropsFault.TheVariants.{BadEscape}
 use Rattle.std.specs.Str.{chars}
-use Rattle.gob_props.specs.Properties.{Logical, natural_lines, logical_from, Character, KeyValue, key_value_of, with_entry}
+use Rattle.gob_props.specs.Properties.{Logical, natural_lines, logical_from, Character, KeyValue, key_value_of}
+use Rattle.gob_props.specs.Properties.{with_entry}
 
 -- what follows the line end in front
 abbrev pub behind_line_end : List ℕ → List ℕ

@@ -27,11 +27,12 @@ use Rattle.gob_recovery.proofs.Spelled.{to_one}
 -- a name below a folder isn't one that is not
 pub apart_below : (folder name other : List ℕ) → begins_with folder name ≡ true → begins_with folder other ≡ false
     → bytes_eq other name ≡ false
-apart_below folder name other inside outside = elim (bytes_eq other name) as (λ b. bytes_eq other name ≡ b → b ≡ false) [
-  | true ↦ λ e. absurd (true≢false (sym inside ∙ (ap (begins_with folder) (sym ((bytes_eq-Decides other name).0 e))
-      ∙ outside)))
-  | false ↦ λ e. refl
-] refl
+apart_below folder name other inside outside = elim (bytes_eq other name) as
+    (λ b. bytes_eq other name ≡ b → b ≡ false) [
+      | true ↦ λ e. absurd (true≢false (sym inside ∙ (ap (begins_with folder) (sym ((bytes_eq-Decides other name).0 e))
+          ∙ outside)))
+      | false ↦ λ e. refl
+    ] refl
 
 pub below_same : (folder : List ℕ) (m : Files) → OnlyBelow folder m m
 below_same folder m = λ name e. refl
@@ -296,7 +297,8 @@ closes_is job steps m n c o = λ i name. each name i
               sym (ap (put (do_steps steps m) (staged_sequence job) None) is
               ∙ (ap (λ b. cond b None (do_steps steps m (sequence_name job))) (sequences_apart job) ∙ closed))
           | false ↦ λ e. elim (bytes_eq name (staged_sequence job)) as
-              (λ b. bytes_eq name (staged_sequence job) ≡ b → do_steps steps n name ≡ cond b None (do_steps steps m name)) [
+              (λ b. bytes_eq name (staged_sequence job) ≡ b → do_steps steps n name ≡ cond b None
+              (do_steps steps m name)) [
                 | true ↦ λ f. ap (do_steps steps n) ((bytes_eq-Decides name (staged_sequence job)).0 f) ∙ gone
                 | false ↦ λ f. same_steps name e f
               ] refl

@@ -15,7 +15,8 @@ use Rattle.gob_recovery.specs.Sequence.{CommitStep, move, remove, step_line, Wel
 use Rattle.gob_recovery.specs.Settle.{do_steps, without_staging, can_do, Open, IsSettled, Settles, IsDamaged, sequence}
 use Rattle.gob_recovery.specs.Settle.{lost, SettlesAs}
 use Rattle.gob_recovery.specs.Commits.{OnlyBelow, part_done}
-use Rattle.gob_recovery.specs.Examples.{steps, one_move_text, entry, calls, after_calls, stopped_files, committed_files, IsCommitted}
+use Rattle.gob_recovery.specs.Examples.{steps, one_move_text, entry, calls, after_calls, stopped_files, committed_files}
+use Rattle.gob_recovery.specs.Examples.{IsCommitted}
 use Rattle.gob_recovery.specs.Examples.{WorkedCommit, BetweenMoves, WorkedDamage}
 use Rattle.gob_recovery.proofs.Again.{Off, turned}
 use Rattle.gob_recovery.proofs.Opened.{steps_still}
@@ -92,7 +93,8 @@ entry_settled = record {
 before_opened : (n : Files) → OnlyBelow (staging job) entry n → SettlesAs job entry n
 before_opened n below = (staged_free job entry n entry_settled (λ name e. below name e)).1
 
-torn_staged : (n : Files) → Torn (codes "j1/stage/seq") (after_append (codes "j1/stage/seq") one_move_text) (stopped_files 7) n
+torn_staged : (n : Files) → Torn (codes "j1/stage/seq") (after_append (codes "j1/stage/seq") one_move_text)
+    (stopped_files 7) n
     → OnlyBelow (staging job) entry n
 torn_staged n torn = λ name e.
     torn.others name (λ is. true≢false (sym (ap (begins_with (staging job)) is ∙ refl) ∙ e))
@@ -122,7 +124,8 @@ staged_there : stopped_files 9 (codes "j1/stage/seq") ≡ Some (clean (sequence_
 unfolding stopped_files after_calls after_create after_append after_sync
 staged_there = ap (λ (t : List ℕ). Some (clean t)) (sym spelled_is)
 
-staged_others : (name : List ℕ) → bytes_eq name (codes "j1/stage/seq") ≡ false → stopped_files 9 name ≡ stopped_files 6 name
+staged_others : (name : List ℕ) → bytes_eq name (codes "j1/stage/seq") ≡ false → stopped_files 9 name
+    ≡ stopped_files 6 name
 unfolding stopped_files after_calls after_create after_append after_sync
 staged_others name e =
     ap (λ b. cond b (stopped_files 9 (codes "j1/stage/seq")) (stopped_files 8 name)) e
@@ -253,6 +256,7 @@ worked_damage = record {
       (λ ss reads. true≢false (sym (ap ends_in_lf reads.spelled ∙ sequence_ends ss)));
   lost = lost (move (codes "j1/stage/0-0/out/a.txt") (codes "j1/out/a.txt") ∷ []) (codes "j1/stage/state")
       (codes "j1/state") (remove (codes "j1/delta/1") ∷ [])
-      (record { file = clean one_move_text; here = refl; reads = record { spelled = sym spelled_is; fits = fits_is } }) refl
+      (record { file = clean one_move_text; here = refl; reads = record { spelled = sym spelled_is; fits = fits_is } })
+      refl
       refl;
 }

@@ -4,7 +4,8 @@ use Rattle.std.specs.List.{range_with_len}
 use Rattle.gob_recovery.specs.Sequence.{is_file_name, is_sequence_byte, move, remove, step_fits}
 
 pub name_bytes :
-    filter is_sequence_byte (range_with_len 0 300) ≡ codes "%-./0123456789@ABCDEFGHIJKLMNOPQRSTUVWXYZ_abcdefghijklmnopqrstuvwxyz"
+    filter is_sequence_byte (range_with_len 0 300) ≡ codes
+    "%-./0123456789@ABCDEFGHIJKLMNOPQRSTUVWXYZ_abcdefghijklmnopqrstuvwxyz"
 name_bytes = refl
 
 pub file_names :

@@ -47,7 +47,8 @@ free_byte sep b out in_ = elim (nat_eq b sep) as (λ v. nat_eq b sep ≡ v → n
   | false ↦ λ e. refl
 ] refl
 
-free_bytes : (sep : ℕ) (bytes : List ℕ) → is_sequence_byte sep ≡ false → list_all is_sequence_byte bytes ≡ true → Free sep bytes
+free_bytes : (sep : ℕ) (bytes : List ℕ) → is_sequence_byte sep ≡ false → list_all is_sequence_byte bytes ≡ true
+    → Free sep bytes
 free_bytes sep [] out all = refl
 free_bytes sep (b ∷ bs) out all =
     let p = and_parts (is_sequence_byte b) (list_all is_sequence_byte bs) all in

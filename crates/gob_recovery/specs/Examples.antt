@@ -28,7 +28,8 @@ calls = after_create (codes "j1/stage/0-0/out/a.txt") ∷ after_append (codes "j
     after_sync (codes "j1/stage/0-0/out/a.txt")
     ∷ after_create (codes "j1/stage/state") ∷ after_append (codes "j1/stage/state") (codes "new\n") ∷ after_sync
     (codes "j1/stage/state")
-    ∷ after_create (codes "j1/stage/seq") ∷ after_append (codes "j1/stage/seq") one_move_text ∷ after_sync (codes "j1/stage/seq")
+    ∷ after_create (codes "j1/stage/seq") ∷ after_append (codes "j1/stage/seq") one_move_text ∷ after_sync
+    (codes "j1/stage/seq")
     ∷ after_rename (codes "j1/stage/seq") (codes "j1/seq")
     ∷ after_rename (codes "j1/stage/0-0/out/a.txt") (codes "j1/out/a.txt") ∷ after_rename (codes "j1/stage/state")
     (codes "j1/state")
@@ -62,7 +63,8 @@ pub record WorkedCommit : Type 0 where
   pub fits : WellFormed (codes "j1") steps
   pub is : IsCommitted committed_files
   pub before : (k : ℕ) → k ≤ 9 → SettlesAs (codes "j1") entry (stopped_files k)
-  pub torn : (n : Files) → Torn (codes "j1/stage/seq") (after_append (codes "j1/stage/seq") one_move_text) (stopped_files 7) n
+  pub torn : (n : Files) → Torn (codes "j1/stage/seq") (after_append (codes "j1/stage/seq") one_move_text)
+      (stopped_files 7) n
       → SettlesAs (codes "j1") entry n
   pub after : (k : ℕ) → 10 ≤ k → SettlesAs (codes "j1") committed_files (stopped_files k)
   pub whole : stopped_files 14 ≡ part_done (codes "j1") steps (stopped_files 6)
@@ -79,5 +81,6 @@ pub record BetweenMoves : Type 0 where
 pub record WorkedDamage : Type 0 where
   pub cut : IsDamaged (codes "j1") (put no_files (codes "j1/seq") (Some (clean (codes "gobblin-sequence 1\nend 0"))))
       (codes "j1/seq")
-  pub lost : IsDamaged (codes "j1") (put (put no_files (codes "j1/seq") (Some (clean one_move_text))) (codes "j1/out/a.txt")
+  pub lost : IsDamaged (codes "j1") (put (put no_files (codes "j1/seq") (Some (clean one_move_text)))
+      (codes "j1/out/a.txt")
       (Some (clean []))) (codes "j1/stage/state")

@@ -93,7 +93,8 @@ none_counted s (n ∷ ns) i past = (λ j. (same j) ∷ none_counted (s + 1) ns i
 
 -- all ranges are counted
 pub done_all : (old a : List ℕ) (ds : List Done) (i : ℕ) → length ds ≤ i
-    → counted_from 0 a (ranges_made_by (drop i ds)) ≡ counted_from 0 old (ranges_made_by ds) → a ≡ counted_from 0 old (ranges_made_by ds)
+    → counted_from 0 a (ranges_made_by (drop i ds)) ≡ counted_from 0 old (ranges_made_by ds) → a ≡ counted_from 0 old
+    (ranges_made_by ds)
 done_all old a ds i past inv =
     sym (counted_none 0 a) ∙ ap (λ xs. counted_from 0 a (ranges_made_by xs)) (sym (dropped_all ds i past)) ∙ inv
 
@@ -131,7 +132,8 @@ part_counted old a b parts i e below is inv one =
     ∙ counted_same 0 a _ (made_in (e ∷ drop (i + 1) parts)) (λ k. sym (first k))
     ∙ ap (λ xs. counted_from 0 a (made_in xs)) (sym (at_drop parts i e below is)) ∙ inv
   where
-    first : (k : ℕ) → made_in (e ∷ drop (i + 1) parts) k ≡ ranges_made_by e.1.finished k + made_in (drop (i + 1) parts) k
+    first : (k : ℕ) → made_in (e ∷ drop (i + 1) parts) k ≡ ranges_made_by e.1.finished k + made_in
+        (drop (i + 1) parts) k
     first k = sum_by-cons (λ (x : List ℕ × Marks). ranges_made_by x.1.finished k) e (drop (i + 1) parts)
 
 -- ---- lines

@@ -28,7 +28,8 @@ long_line_of first (v ∷ vs) ws = ap (λ t. first ++ 32 ∷ t) (long_line_of (w
 pub line_pushed : (old a b new first : List ℕ) (ws : List Word) → a ≡ old ++ first → b ≡ a ++ spaced_words ws
     → new ≡ b ++ 10 ∷ [] → new ≡ old ++ words first (map word_text ws)
 line_pushed old a b new first ws pa pb pc =
-    pc ∙ ap (λ t. t ++ 10 ∷ []) (pb ∙ ap (λ t. t ++ spaced_words ws) pa) ∙ regrouped old first (spaced_words ws) (10 ∷ [])
+    pc ∙ ap (λ t. t ++ 10 ∷ []) (pb ∙ ap (λ t. t ++ spaced_words ws) pa) ∙ regrouped old first (spaced_words ws)
+    (10 ∷ [])
     ∙ ap (λ t. old ++ t) (sym (line_of first ws))
   where
     regrouped : (o f w n : List ℕ) → ((o ++ f) ++ w) ++ n ≡ o ++ (f ++ (w ++ n))
@@ -38,7 +39,8 @@ pub long_line_pushed : (old a b c new first : List ℕ) (vs ws : List Word) → 
     → c ≡ b ++ spaced_words ws → new ≡ c ++ 10 ∷ [] → new ≡ old ++ words first (map word_text vs ++ map word_text ws)
 long_line_pushed old a b c new first vs ws pa pb pc pd =
     pd ∙ ap (λ t. t ++ 10 ∷ []) (pc ∙ ap (λ t. t ++ spaced_words ws) (pb ∙ ap (λ t. t ++ spaced_words vs) pa))
-    ∙ regrouped old first (spaced_words vs) (spaced_words ws) (10 ∷ []) ∙ ap (λ t. old ++ t) (sym (long_line_of first vs ws))
+    ∙ regrouped old first (spaced_words vs) (spaced_words ws) (10 ∷ []) ∙ ap (λ t. old ++ t)
+    (sym (long_line_of first vs ws))
   where
     regrouped : (o f v w n : List ℕ) → (((o ++ f) ++ v) ++ w) ++ n ≡ o ++ (f ++ (v ++ (w ++ n)))
     regrouped o f v w n = simp append_assoc

@@ -217,7 +217,8 @@ left_broken job blamed d e (sequence damaged same) = sequence blamed damaged
 left_broken job blamed d e (state settled damaged) = state e.files blamed settled.settles damaged
 
 -- and no state is found
-no_entry : (job blamed : List ℕ) (d e : Disk) (o : Option State) → LeftBroken job blamed d e → SettledEntry job d.files o → ⊥
+no_entry : (job blamed : List ℕ) (d e : Disk) (o : Option State) → LeftBroken job blamed d e
+    → SettledEntry job d.files o → ⊥
 no_entry job blamed d e o (sequence damaged same) found =
     (one_damage job d.files blamed damaged).unsettled found.settled found.settles
 no_entry job blamed d e o (state settled damaged) found =
@@ -369,7 +370,8 @@ cut_caused job o Memory old new entry settled none cut = tt
 
 -- the first partition that shrank is one
 shrunk_one : (job : Job) (o : Option State) (s : Supply) (part name : List ℕ) (next size at long : ℕ)
-    → IsFirstShrunk job s o part next size → IsFirstShrunk job s o name at long → Shrunk part next size ≡ Shrunk name at long
+    → IsFirstShrunk job s o part next size → IsFirstShrunk job s o name at long → Shrunk part next size
+    ≡ Shrunk name at long
 shrunk_one job o s part name next size at long a b =
     let parts : Table Marks = (state_or_empty job o).parts in
     let same : (part, size) ≡ (name, long) = same_some (part, size) (name, long) (sym a.first ∙ b.first) in
@@ -393,7 +395,8 @@ full_one job o s ranges units stored fresh a b =
 
 -- what is refused over the state that is found
 refused_shrunk : (job : Job) (o : Option State) (d : Disk) (s : Supply) (part : List ℕ) (next size : ℕ) (r : RunFault)
-    → SettledEntry job.name d.files o → IsFirstShrunk job s o part next size → Refused job d s r → Shrunk part next size ≡ r
+    → SettledEntry job.name d.files o → IsFirstShrunk job s o part next size → Refused job d s r
+    → Shrunk part next size ≡ r
 refused_shrunk job o d s part next size _ entry is (broken name damaged) =
     absurd (entry_unbroken job.name name d.files o entry damaged)
 refused_shrunk job o d s part next size _ entry is (shrunk p name at long other due) =

@@ -32,7 +32,8 @@ use Rattle.gob_history.specs.Sound.{AllRecoverTo}
 use Rattle.gob_state.specs.Committed.{judged_by, verdicts_in}
 use Rattle.gob_state.specs.declared.next.Outcome.{Outcome}
 use Rattle.gob_turns.specs.Taken.{FailuresRose, HasPulled, given_up_in}
-use Rattle.gob_run.specs.Entry.{SettledEntry, IsFull, IsFirstShrunk, LeftBroken, IsBroken, OnlySettled, Refused, SettledTo, TooMany}
+use Rattle.gob_run.specs.Entry.{SettledEntry, IsFull, IsFirstShrunk, LeftBroken, IsBroken, OnlySettled, Refused}
+use Rattle.gob_run.specs.Entry.{SettledTo, TooMany}
 use Rattle.gob_run.specs.World.{WorldGoesOn, WhereFiled, WhereSupplied, WhereTold, World}
 use Rattle.gob_run.specs.declared.fault.RunFault.{RunFault}
 use Rattle.gob_run.specs.declared.fault.RunFault.TheVariants.{Damaged, Shrunk, Full, SourceFault, VolumeFault, Memory}

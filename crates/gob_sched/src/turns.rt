@@ -32,7 +32,12 @@ impl Model for Core {
 
     ghost Value = { CoreValue };
 
-    ghost view = { λ c. record { rules = c.rules; place = c.place; left = c.active.items ++ range_with_len c.waiting (c.units - c.waiting) } };
+    ghost view = { λ c. record {
+      rules = c.rules;
+      place = c.place;
+      left = c.active.items ++ range_with_len c.waiting
+          (c.units - c.waiting);
+    } };
 }
 
 impl Core {

@@ -42,7 +42,8 @@ kept_all {X} p kept xs all i past inv =
     sym (append-nil kept) ∙ ap (λ (ys : List X). kept ++ filter p ys) (sym (dropped_all xs i past)) ∙ inv
 
 -- the whole text of a change
-pub delta_written : (s t : State) (a b c d e f g : List ℕ) → a ≡ [] → b ≡ a ++ numbered_line (codes "gobblin-delta") (2 ∷ [])
+pub delta_written : (s t : State) (a b c d e f g : List ℕ) → a ≡ [] → b ≡ a ++ numbered_line (codes "gobblin-delta")
+    (2 ∷ [])
     → c ≡ b ++ numbered_line (codes "run") (t.run ∷ [])
     → d ≡ c ++ pipelines_text version_2 (drop (length s.pipelines) t.pipelines)
     → e ≡ d ++ totals_text t.totals → f ≡ e ++ changed_texts s.parts t.parts → g ≡ f ++ (codes "end" ++ 10 ∷ [])

@@ -292,7 +292,8 @@ one_more_change v n t old rest mid u last some there = record {
 
 whole_change : (v : Version) (n : ℕ) (t : Table Marks) (last rest mid new : List ℕ) (b : Bool)
     (o : Option (List ℕ × Marks))
-    → TakesText (codes "partition") rest mid b → b ≡ true → ReadsSpelling (change_rest v t) (IsChange v n t last) NoRange mid
+    → TakesText (codes "partition") rest mid b → b ≡ true → ReadsSpelling (change_rest v t)
+    (IsChange v n t last) NoRange mid
     new o
     → ReadsSpelling (entry_text v t) (IsChange v n t last) NoRange rest new o
 whole_change v n t last rest mid new b o text taken r =
@@ -335,7 +336,8 @@ order_last (n ∷ o ∷ ns) x q order = order_last (o ∷ ns) x q order.1
 pub next_change : (v : Version) (n : ℕ) (t : Table Marks) (old rest mid new : List ℕ) (u after : Table Marks)
     (last name : List ℕ) (e : List ℕ × Marks) (b : Bool) → SomeChanges v n t old rest u last
     → TakesText (codes "partition") rest mid b → b ≡ true
-    → ReadsSpelling (change_rest v u) (IsChange v n u last) NoRange mid new (Some e) → after ≡ with_name u e.0 e.1 → name ≡ e.0
+    → ReadsSpelling (change_rest v u) (IsChange v n u last) NoRange mid new (Some e) → after ≡ with_name u e.0 e.1
+    → name ≡ e.0
     → SomeChanges v n t old new after name
 next_change v n t old rest mid new u after last name e b some text taken read is level =
     subst (λ x. SomeChanges v n t old new x name) (sym is)
@@ -519,7 +521,8 @@ pub changes_read : (v : Version) (n : ℕ) (t : Table Marks) (old rest new : Lis
     (b : Bool) → SomeChanges v n t old rest u last → TakesText (codes "partition") rest new b → b ≡ false
     → ReadsSpelling (Spelled v t) (PartsAfter v n t) NoPart old new (Some u)
 changes_read v n t old rest new u last b some text gone =
-    subst (λ x. ReadsSpelling (Spelled v t) (PartsAfter v n t) NoPart old x (Some u)) (sym (text.unchanged gone)) (record {
+    subst (λ x. ReadsSpelling (Spelled v t) (PartsAfter v n t) NoPart old x (Some u)) (sym (text.unchanged gone))
+    (record {
       spelled = (
         after_all,
         all.spelled.1 ∙ ap (λ x. x ++ rest) (ap (flat_map (entry_text v t)) these ∙ sym (texts_are v t u)),
@@ -565,7 +568,8 @@ head_not_above v n t last name next old mid new o r is out =
 pub over_marks : (v : Version) (n : ℕ) (t : Table Marks) (name named : List ℕ) (b : Marks) (mid new : List ℕ)
     (o : Option Marks) → b ≡ marks_in t named → named ≡ name
     → ReadsSpelling (λ m. ranges_text v (changed_marks b m)) (MarksAfter v n b) NoRange mid new o
-    → ReadsSpelling (λ m. ranges_text v (changed_marks (marks_in t name) m)) (MarksAfter v n (marks_in t name)) NoRange mid new
+    → ReadsSpelling (λ m. ranges_text v (changed_marks (marks_in t name) m))
+    (MarksAfter v n (marks_in t name)) NoRange mid new
     o
 over_marks v n t name named b mid new o is level r =
     subst (λ x. ReadsSpelling (λ m. ranges_text v (changed_marks x m)) (MarksAfter v n x) NoRange mid new o)
@@ -574,7 +578,8 @@ over_marks v n t name named b mid new o is level r =
 pub change_none : (v : Version) (n : ℕ) (t : Table Marks) (last name : List ℕ) (next : ℕ) (old mid new : List ℕ)
     (o : Option Marks)
     → ReadsSpelling head_text (IsNextHead last) GoesOnAtAll old mid (Some (name, next))
-    → ReadsSpelling (λ m. ranges_text v (changed_marks (marks_in t name) m)) (MarksAfter v n (marks_in t name)) NoRange mid new
+    → ReadsSpelling (λ m. ranges_text v (changed_marks (marks_in t name) m))
+    (MarksAfter v n (marks_in t name)) NoRange mid new
     o
     → o ≡ None → ReadsSpelling (change_rest v t) (IsChange v n t last) NoRange old new None
 change_none v n t last name next old mid new o head r none =
@@ -584,7 +589,8 @@ change_none v n t last name next old mid new o head r none =
 pub change_other : (v : Version) (n : ℕ) (t : Table Marks) (last name : List ℕ) (next : ℕ) (old mid new : List ℕ)
     (o : Option Marks) (m : Marks)
     → ReadsSpelling head_text (IsNextHead last) GoesOnAtAll old mid (Some (name, next))
-    → ReadsSpelling (λ m. ranges_text v (changed_marks (marks_in t name) m)) (MarksAfter v n (marks_in t name)) NoRange mid new
+    → ReadsSpelling (λ m. ranges_text v (changed_marks (marks_in t name) m))
+    (MarksAfter v n (marks_in t name)) NoRange mid new
     o
     → o ≡ Some m → (m.next ≡ next → ⊥) → ReadsSpelling (change_rest v t) (IsChange v n t last) NoRange old new None
 change_other v n t last name next old mid new o m head r some apart =
@@ -594,16 +600,19 @@ change_other v n t last name next old mid new o m head r some apart =
 pub change_there : (v : Version) (n : ℕ) (t : Table Marks) (last name : List ℕ) (next : ℕ) (old mid new : List ℕ)
     (o : Option Marks) (m : Marks)
     → ReadsSpelling head_text (IsNextHead last) GoesOnAtAll old mid (Some (name, next))
-    → ReadsSpelling (λ m. ranges_text v (changed_marks (marks_in t name) m)) (MarksAfter v n (marks_in t name)) NoRange mid new
+    → ReadsSpelling (λ m. ranges_text v (changed_marks (marks_in t name) m))
+    (MarksAfter v n (marks_in t name)) NoRange mid new
     o
-    → o ≡ Some m → m.next ≡ next → ReadsSpelling (change_rest v t) (IsChange v n t last) NoRange old new (Some (name, m))
+    → o ≡ Some m → m.next ≡ next → ReadsSpelling (change_rest v t) (IsChange v n t last) NoRange old new
+    (Some (name, m))
 change_there v n t last name next old mid new o m head r some level =
     let there = is_there mid new o m r some in
     both_read (change_pairing v n t last) old mid new (name, next) m (Some m) (Some (name, m)) head
     (passed mid new m there (λ k h. h.0) (there.spelled.0, level)) refl refl
 
 pub named_last : (v : Version) (n : ℕ) (u : Table Marks) (given last : List ℕ) (mid new : List ℕ)
-    (o : Option (List ℕ × Marks)) → given ≡ last → ReadsSpelling (change_rest v u) (IsChange v n u given) NoRange mid new o
+    (o : Option (List ℕ × Marks)) → given ≡ last → ReadsSpelling (change_rest v u)
+    (IsChange v n u given) NoRange mid new o
     → ReadsSpelling (change_rest v u) (IsChange v n u last) NoRange mid new o
 named_last v n u given last mid new o is r =
     subst (λ x. ReadsSpelling (change_rest v u) (IsChange v n u x) NoRange mid new o) is r

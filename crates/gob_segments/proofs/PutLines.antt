@@ -99,7 +99,8 @@ one_more_range v n b old rest m from some begins = record {
 
 pub next_put : (v : Version) (n : ℕ) (b : Marks) (old rest new : List ℕ) (m after : Marks) (from behind : ℕ)
     (l : RangeLine) → SomePut v n b old rest m from → BeginsRange rest
-    → ReadsSpelling (range_text v) (IsRangeLine v) GoesOnAtAll rest new (Some l) → CanPut from n m l → after ≡ with_range_line l m
+    → ReadsSpelling (range_text v) (IsRangeLine v) GoesOnAtAll rest new (Some l) → CanPut from n m l → after
+    ≡ with_range_line l m
     → behind ≡ begin_of l + 1 → SomePut v n b old new after behind
 next_put v n b old rest new m after from behind l some begins r can is at =
     subst (λ x. SomePut v n b old new x behind) (sym is)
@@ -133,7 +134,8 @@ none_read v n b old new r = record {
 }
 
 pub put_malformed : (v : Version) (n : ℕ) (b : Marks) (old rest mid new : List ℕ) (m : Marks) (from : ℕ)
-    → SomePut v n b old rest m from → BeginsRange rest → ReadsSpelling (range_text v) (IsRangeLine v) GoesOnAtAll rest mid None
+    → SomePut v n b old rest m from → BeginsRange rest → ReadsSpelling (range_text v)
+    (IsRangeLine v) GoesOnAtAll rest mid None
     → ReadsSpelling (Spelled v b) (MarksAfter v n b) NoRange old new None
 put_malformed v n b old rest mid new m from some begins r = none_read v n b old new
     (one_missing old rest new new some.ranges None None some.along (one_more_range v n b old rest m from some begins)

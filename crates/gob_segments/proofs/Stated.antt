@@ -31,7 +31,8 @@ use Rattle.gob_state.specs.declared.version.Version.TheVariants.{First, Second}
 use Rattle.gob_segments.proofs.Changed.{more_pipelines}
 use Rattle.gob_text.specs.Words.{GoesOnAtAll, TakesText}
 use Rattle.gob_segments.specs.Applied.{AreApart, AreParted, CountedAfter, IsNextRun, PartsAfter, PipelinesAfter}
-use Rattle.gob_segments.specs.Applied.{ReadsAsNoChange, RestAfter, StayAlone, TotalsAfter, changed_table, counted_text_over}
+use Rattle.gob_segments.specs.Applied.{ReadsAsNoChange, RestAfter, StayAlone, TotalsAfter, changed_table}
+use Rattle.gob_segments.specs.Applied.{counted_text_over}
 use Rattle.gob_segments.specs.Applied.{front_text, later_text, rest_text_over, state_with}
 
 -- ---- versions
@@ -66,7 +67,8 @@ SmallAfter v s qs = PipelinesAfter v s.pipelines qs × Small (length qs)
 
 abbrev pub rest_pairing : (v : Version) (s : State)
     → Pairing (later_text v s.pipelines) (SmallAfter v s) GoesOnAtAll (λ qs z. counted_text_over v s.parts z)
-    (λ qs z. CountedAfter v (length qs) (length s.totals.branches) s.parts z) (rest_text_over v s) (RestAfter v s) NoPart
+    (λ qs z. CountedAfter v (length qs) (length s.totals.branches) s.parts z) (rest_text_over v s)
+    (RestAfter v s) NoPart
 rest_pairing v s = record {
   to = λ qs z. (qs, z);
   first = λ z. z.0;
@@ -268,7 +270,8 @@ abbrev VersionReads : List ℕ → List ℕ → Option CodeVersion → Type 0
 VersionReads old mid o = ReadsSpelling (version_line (codes "gobblin-delta")) AnyVersion GoesOnAtAll old mid o
 
 abbrev NumberReads : List ℕ → List ℕ → Option ℕ → Type 0
-NumberReads mid new o = ReadsSpelling (λ n. numbered_line (codes "run") (n ∷ [])) (λ n. n < 2 ^ 64) GoesOnAtAll mid new o
+NumberReads mid new o = ReadsSpelling (λ n. numbered_line (codes "run") (n ∷ []))
+    (λ n. n < 2 ^ 64) GoesOnAtAll mid new o
 
 abbrev FrontReads : CodeVersion → ℕ → List ℕ → List ℕ → Option ℕ → Type 0
 FrontReads w run old new o = ReadsSpelling (front_text (version_of w)) (IsNextRun run) GoesOnAtAll old new o
@@ -296,7 +299,8 @@ other_version w told run old mid o r is apart =
 
 version_there : (w told : CodeVersion) (old mid : List ℕ) (o : Option CodeVersion) → VersionReads old mid o
     → o ≡ Some told → told ≡ w
-    → ReadsSpelling (version_line (codes "gobblin-delta")) (λ x. version_of x ≡ version_of w) GoesOnAtAll old mid (Some told)
+    → ReadsSpelling (version_line (codes "gobblin-delta")) (λ x. version_of x ≡ version_of w) GoesOnAtAll old mid
+    (Some told)
 version_there w told old mid o r is same = passed old mid told (is_there old mid o told r is) (λ x h. tt)
     (ap version_of same)
 
@@ -331,7 +335,8 @@ abbrev TotalsReads : List ℕ → List ℕ → Option Counts → Type 0
 TotalsReads old mid o = ReadsSpelling totals_text AreTotals NoBranch old mid o
 
 pub totals_missing : (v : Version) (n least : ℕ) (t : Table Marks) (old mid : List ℕ) (o : Option Counts)
-    → TotalsReads old mid o → o ≡ None → ReadsSpelling (counted_text_over v t) (CountedAfter v n least t) NoPart old mid None
+    → TotalsReads old mid o → o ≡ None → ReadsSpelling (counted_text_over v t)
+    (CountedAfter v n least t) NoPart old mid None
 totals_missing v n least t old mid o r none =
     first_missing (counted_pairing v n least t) old mid mid None None
     (not_even old mid mid o None r (λ c h. h.0) none refl) refl refl
@@ -356,7 +361,8 @@ ChangedReads v n t mid new q = ReadsSpelling (λ u. parts_text v (changed_table 
 pub changes_missing : (v : Version) (n least : ℕ) (t : Table Marks) (old mid new : List ℕ) (o : Option Counts)
     (c : Counts)
     (q : Option (Table Marks)) → TotalsReads old mid o → o ≡ Some c → least ≤ length c.branches
-    → ChangedReads v n t mid new q → q ≡ None → ReadsSpelling (counted_text_over v t) (CountedAfter v n least t) NoPart old new None
+    → ChangedReads v n t mid new q → q ≡ None → ReadsSpelling (counted_text_over v t)
+    (CountedAfter v n least t) NoPart old new None
 changes_missing v n least t old mid new o c q r is many read none =
     second_missing (counted_pairing v n least t) old mid new c None None (totals_there least old mid o c r is many)
     (is_missing mid new q read none) refl refl
@@ -387,7 +393,8 @@ later_there v s old mid o qs n r is count small =
     passed old mid qs there (λ d h. h.0) (there.spelled.0, omega (arith, count, small))
 
 abbrev CountedReads : Version → State → ℕ → ℕ → List ℕ → List ℕ → Option (Counts × Table Marks) → Type 0
-CountedReads v s n least mid new q = ReadsSpelling (counted_text_over v s.parts) (CountedAfter v n least s.parts) NoPart mid new q
+CountedReads v s n least mid new q = ReadsSpelling (counted_text_over v s.parts)
+    (CountedAfter v n least s.parts) NoPart mid new q
 
 pub later_missing : (v : Version) (s : State) (old mid : List ℕ) (o : Option (List (List ℕ))) → LaterReads v s old mid o
     → o ≡ None → ReadsSpelling (rest_text_over v s) (RestAfter v s) NoPart old mid None

@@ -127,7 +127,8 @@ fn take_counted(
     requires parted { AreParted (version_of version) pipelines before }
     requires names { IsInByteOrder (names_of before) }
     ensures { IfOk result (λ taken.
-        ReadsSpelling (counted_text_over (version_of version) before) (CountedAfter (version_of version) pipelines least before) NoPart
+        ReadsSpelling (counted_text_over (version_of version) before)
+        (CountedAfter (version_of version) pipelines least before) NoPart
         text.old text.new taken) }
 {
     let Some(totals) = take_totals(alloc, text)? else {

@@ -52,7 +52,8 @@ fn take_one_more(
 ) -> Result<Option<List<Text>>, NoMemory>
     requires { AreApart known }
     ensures { IfOk result (λ taken.
-        ReadsSpelling (later_text version_2 known) (PipelinesAfter version_2 known) GoesOnAtAll text.old text.new taken) }
+        ReadsSpelling (later_text version_2 known) (PipelinesAfter version_2 known) GoesOnAtAll text.old text.new
+        taken) }
 {
     let Some(count) = take_numbered(text, b"pipelines") else {
         return Ok(None);

@@ -67,7 +67,8 @@ fn put_range(
 
 fn put_done(marks: &mut Marks, done: Done, from: u64, pipelines: u64) -> Result<bool, NoMemory>
     ensures put { IfOk result (λ put. IsTrue put
-        → CanPut from pipelines marks.old (range_line.Done done) × (marks.new ≡ with_range_line (range_line.Done done) marks.old)) }
+        → CanPut from pipelines marks.old (range_line.Done done)
+        × (marks.new ≡ with_range_line (range_line.Done done) marks.old)) }
     ensures refused { IfOk result (λ put. IsFalse put → CanPut from pipelines marks.old (range_line.Done done) → ⊥) }
 {
     let range = done.range;

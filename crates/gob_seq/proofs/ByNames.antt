@@ -8,7 +8,8 @@ use Rattle.gob_device.proofs.Trail.{along_map, maps_change}
 use Rattle.gob_recovery.specs.Commits.{OnlyBelow, staged_sequence}
 use Rattle.gob_recovery.specs.Sequence.{CommitStep, sequence_text, WellFormed}
 use Rattle.gob_recovery.proofs.Commits.{sequence_staged}
-use Rattle.gob_seq.specs.Maps.{EndsBy, CanFinish, EndsAs, Finishes, SettlingGoesOn, SettlesUnstaged, after_write, finished_files}
+use Rattle.gob_seq.specs.Maps.{EndsBy, CanFinish, EndsAs, Finishes, SettlingGoesOn, SettlesUnstaged, after_write}
+use Rattle.gob_seq.specs.Maps.{finished_files}
 use Rattle.gob_seq.proofs.GoingOver.{opened_map}
 use Rattle.gob_seq.proofs.Named.{finishes_below, sequence_below, staged_below}
 use Rattle.gob_seq.proofs.Resettled.{finish_along, finish_becomes}
@@ -71,7 +72,8 @@ finish_maps job name steps ss {old} {new} is same a =
 
 pub finish_ends : (job name : List ℕ) (steps ss : List CommitStep) {old new : Option Disk} → name ≡ sequence_name job
     → ss ≡ steps
-    → AddsMaps (EndsAs (finished_files name ss)) old new → AddsMaps (EndsAs (finished_files (sequence_name job) steps)) old new
+    → AddsMaps (EndsAs (finished_files name ss)) old new → AddsMaps
+    (EndsAs (finished_files (sequence_name job) steps)) old new
 finish_ends job name steps ss {old} {new} is same a =
     subst (λ (p : List ℕ × List CommitStep). AddsMaps (EndsAs (finished_files p.0 p.1)) old new) (λ i. (is i, same i)) a
 

@@ -73,7 +73,8 @@ after_well job steps m n can below =
 pub finish_part : (job : List ℕ) (steps : List CommitStep) (m last : Files) → CanCommit job steps m
     → last ≡ opened_map job steps m → finished_files (sequence_name job) steps last ≡ part_done job steps m
 finish_part job steps m last can is =
-    ap (finished_files (sequence_name job) steps) is ∙ closes_is job steps m (opened_map job steps m) can (opens job steps m)
+    ap (finished_files (sequence_name job) steps) is ∙ closes_is job steps m (opened_map job steps m) can
+    (opens job steps m)
 
 finish_well : (job : List ℕ) (steps : List CommitStep) (m last n : Files) → CanCommit job steps m
     → last ≡ opened_map job steps m → Finishes (sequence_name job) steps last n

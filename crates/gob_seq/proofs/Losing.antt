@@ -65,7 +65,8 @@ other_can (Move a b) (Some d) other = absurd (other a b refl)
 other_can (Remove a) (Some d) other = refl
 
 cut_at : (steps : List SeqStep) (i : ℕ) (step : SeqStep) → i < length steps → step ≡ get_or steps i step
-    → map commit_step_of steps ≡ take i (map commit_step_of steps) ++ commit_step_of step ∷ drop (suc i) (map commit_step_of steps)
+    → map commit_step_of steps ≡ take i (map commit_step_of steps) ++ commit_step_of step ∷ drop (suc i)
+    (map commit_step_of steps)
 cut_at [] i step below is = absurd (omega (arith, below))
 cut_at (s ∷ ss) zero step below is = ap (λ z. commit_step_of z ∷ map commit_step_of ss) (sym is)
 cut_at (s ∷ ss) (suc i) step below is = ap (λ t. commit_step_of s ∷ t) (cut_at ss i step (omega (arith, below)) is)

@@ -12,7 +12,8 @@ use Rattle.gob_device.specs.Disk.{Files, after_remove}
 use Rattle.gob_device.specs.Names.{IsPathname, is_pathname}
 use Rattle.gob_device.proofs.Names.{name_before, name_bytes}
 use Rattle.gob_recovery.specs.Commits.{OnlyBelow, staged_sequence}
-use Rattle.gob_recovery.specs.Sequence.{CommitStep, WellFormed, is_file_name, is_lasting, is_sequence_byte, is_staged, move}
+use Rattle.gob_recovery.specs.Sequence.{CommitStep, WellFormed, is_file_name, is_lasting, is_sequence_byte, is_staged}
+use Rattle.gob_recovery.specs.Sequence.{move}
 use Rattle.gob_recovery.specs.Sequence.{names_in, remove, step_fits}
 use Rattle.gob_recovery.specs.Settle.{do_steps}
 use Rattle.gob_recovery.proofs.Again.{Off, steps_off}

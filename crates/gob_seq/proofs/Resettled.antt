@@ -32,7 +32,8 @@ use Rattle.gob_seq.proofs.Trails.{along_known, always, at_told, if_both, maps_bo
 pub goes_same : (job : List ℕ) (m : Files) → SettlingGoesOn job m m
 goes_same job m = record { same = λ settled s. s; untorn = λ quiet. quiet }
 
-pub goes_then : (job : List ℕ) (m n k : Files) → SettlingGoesOn job m n → SettlingGoesOn job n k → SettlingGoesOn job m k
+pub goes_then : (job : List ℕ) (m n k : Files) → SettlingGoesOn job m n → SettlingGoesOn job n k
+    → SettlingGoesOn job m k
 goes_then job m n k a b = record {
   same = λ settled s. b.same settled (a.same settled s);
   untorn = λ quiet. b.untorn (a.untorn quiet);
@@ -91,7 +92,8 @@ closed_then : (job : List ℕ) (m n : Files) → SettlesUnstaged job m n → n (
 closed_then job m n s =
     sym (cleaned_other job n (sequence_name job) (not_staged job)) ∙ (settled_is job m (without_staging job n) s).closed
 
-clean_goes : (job : List ℕ) (m n k : Files) → SettlesUnstaged job m n → OnlyBelow (staging job) n k → SettlingGoesOn job n k
+clean_goes : (job : List ℕ) (m n k : Files) → SettlesUnstaged job m n → OnlyBelow (staging job) n k
+    → SettlingGoesOn job n k
 clean_goes job m n k unstaged below =
     let closed = closed_then job m n unstaged in
     record {
@@ -129,7 +131,8 @@ finish_along job steps {old} can a = along_known (Finishes (sequence_name job) s
 
 pub finish_becomes : (job : List ℕ) (steps : List CommitStep) {old new : Option Disk}
     → IfSome old (λ d. CanFinish job d.files steps)
-    → AddsMaps (EndsAs (finished_files (sequence_name job) steps)) old new → AddsMaps (EndsBy (SettlesUnstaged job)) old new
+    → AddsMaps (EndsAs (finished_files (sequence_name job) steps)) old new → AddsMaps
+    (EndsBy (SettlesUnstaged job)) old new
 finish_becomes job steps {old} can a = maps_known (if_both old (λ d k xs e. finish_unstaged job d.files _ steps k e)
     can) a
 

@@ -15,7 +15,8 @@ use Rattle.gob_seq.proofs.Fronts.{one_more}
 pub flat_more : {A : Type 0} (F : CommitStep → List A) (steps : List SeqStep) (i : ℕ) (step : SeqStep)
     → i < length steps
     → step ≡ get_or steps i step
-    → flat_map F (take (i + 1) (map commit_step_of steps)) ≡ flat_map F (take i (map commit_step_of steps)) ++ F (commit_step_of step)
+    → flat_map F (take (i + 1) (map commit_step_of steps)) ≡ flat_map F (take i (map commit_step_of steps)) ++ F
+    (commit_step_of step)
 flat_more F steps i step below is =
     ap (λ j. flat_map F (take j (map commit_step_of steps))) (add-one i)
     ∙ (ap (flat_map F) (one_more commit_step_of steps i step below is)
@@ -29,7 +30,8 @@ pub all_more : (F : CommitStep → Bool) (steps : List SeqStep) (i : ℕ) (step 
     → list_all F (take (i + 1) (map commit_step_of steps)) ≡ true
 all_more F steps i step below is all passes =
     ap (λ j. list_all F (take j (map commit_step_of steps))) (add-one i)
-    ∙ (ap (list_all F) (one_more commit_step_of steps i step below is) ∙ appended (take i (map commit_step_of steps)) all)
+    ∙ (ap (list_all F) (one_more commit_step_of steps i step below is) ∙ appended
+    (take i (map commit_step_of steps)) all)
   where
     appended : (ss : List CommitStep) → list_all F ss ≡ true → list_all F (ss ++ commit_step_of step ∷ []) ≡ true
     appended [] e = and_from (F (commit_step_of step)) true passes refl

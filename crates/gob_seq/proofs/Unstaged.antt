@@ -54,7 +54,8 @@ lasting_unstaged job name e =
 unstages_step : (job : List ℕ) (s : CommitStep) (m : Files) → step_fits job s ≡ true
     → OnlyUnstages job m (do_step s m)
 unstages_step job (move source target) m fits =
-    let p = and_parts (is_staged job source && is_lasting job target && is_file_name source) (is_file_name target) fits in
+    let p = and_parts (is_staged job source && is_lasting job target && is_file_name source) (is_file_name target) fits
+    in
     let q = and_parts (is_staged job source && is_lasting job target) (is_file_name source) p.0 in
     moved_or_not (is_some (m source)) job source target m
     (lasting_unstaged job target (and_parts (is_staged job source) (is_lasting job target) q.0).1)

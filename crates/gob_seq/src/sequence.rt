@@ -144,7 +144,8 @@ fn differ(alloc: Global, steps: &[SeqStep]) -> Result<bool, NoMemory>
 }
 
 fn names_in<'a>(alloc: Global, steps: &'a [SeqStep]) -> Result<Vec<&'a str>, NoMemory>
-    ensures { IfOk result (λ names. map (λ n. n.now) names.items ≡ flat_map recovery.names_in (map commit_step_of steps.now)) }
+    ensures { IfOk result (λ names. map (λ n. n.now) names.items ≡ flat_map recovery.names_in
+        (map commit_step_of steps.now)) }
 {
     let mut names = Vec::new(alloc);
     for step in steps {

@@ -7,7 +7,8 @@ ghost use Rattle.gob_device.specs.Names.{IsPathname};
 ghost use Rattle.gob_recovery.specs.Commits.{OnlyBelow};
 ghost use Rattle.gob_recovery.specs.Sequence.{WellFormed};
 ghost use Rattle.gob_recovery.specs.Settle.{IsDamaged, Settles};
-ghost use Rattle.gob_seq.specs.Maps.{EndsBy, CanFinish, SettlingGoesOn, ImagesSettleTheSame, SettlesByName, SettlesTheSame};
+ghost use Rattle.gob_seq.specs.Maps.{EndsBy, CanFinish, SettlingGoesOn, ImagesSettleTheSame, SettlesByName};
+ghost use Rattle.gob_seq.specs.Maps.{SettlesTheSame};
 ghost use Rattle.gob_seq.specs.Maps.{OnlyUnstages, SettlesUnstaged};
 ghost use Rattle.gob_seq.specs.Faults.{DamageDue, Damages, RoseIfSettleFailed};
 

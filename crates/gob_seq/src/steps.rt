@@ -46,7 +46,8 @@ fn do_steps<V: Volume>(volume: &mut V, steps: &[SeqStep]) -> Result<(), Failed>
 fn do_step<V: Volume>(volume: &mut V, step: &SeqStep) -> Result<(), Failed>
     requires { is_callable (commit_step_of step.now) ≡ true }
     ensures maps { Along (Whole (do_step (commit_step_of step.now))) (V.disk volume.old) (V.disk volume.new) }
-    ensures ok { OnOk result (AddsMaps (EndsAs (do_step (commit_step_of step.now))) (V.disk volume.old) (V.disk volume.new)) }
+    ensures ok { OnOk result (AddsMaps (EndsAs (do_step (commit_step_of step.now))) (V.disk volume.old)
+        (V.disk volume.new)) }
     ensures err { OnErr result (Rose (V.faults volume.old) (V.faults volume.new)) }
     ensures goes_on { V.faults volume.old ≤ V.faults volume.new }
 {

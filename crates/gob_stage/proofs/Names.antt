@@ -205,7 +205,8 @@ named_more (e ∷ es) target x named all = cases (name_cmp target e.0) refl (nam
         parts.0 later)
 
 -- one more
-pub kept_more : (folder : List ℕ) (files : Table (List ℕ)) (target : List ℕ) → AreStagingTargets folder files → IsPathname target
+pub kept_more : (folder : List ℕ) (files : Table (List ℕ)) (target : List ℕ) → AreStagingTargets folder files
+    → IsPathname target
     → AreStagingTargets folder (with_name files target (folder ++ target))
 kept_more folder files target kept named = record {
   folder_named = kept.folder_named;

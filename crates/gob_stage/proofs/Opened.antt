@@ -69,10 +69,12 @@ begun_again a folder files target o begun =
 
 pub kept_added : (a : AttemptValue) (folder : List ℕ) (files more : Table (List ℕ)) (target name : List ℕ)
     → Opened a folder files
-    → IsPathname target → name ≡ staged_name a target → more ≡ with_name files target name → AreStagingTargets folder more
+    → IsPathname target → name ≡ staged_name a target → more ≡ with_name files target name
+    → AreStagingTargets folder more
 kept_added a folder files more target name o named is added =
     let here : name ≡ folder ++ target = is ∙ ap (λ f. f ++ target) (sym o.folder_is) in
-    subst (AreStagingTargets folder) (sym (added ∙ ap (with_name files target) here)) (kept_more folder files target o.kept named)
+    subst (AreStagingTargets folder) (sym (added ∙ ap (with_name files target) here))
+    (kept_more folder files target o.kept named)
 
 pub view_added : (a : AttemptValue) (job folder : List ℕ) (files more : Table (List ℕ)) (target name : List ℕ)
     → (let v : AttemptValue = record { job = job; folder = folder; begun = names_of files } in v) ≡ a
@@ -220,7 +222,8 @@ among_below a folder files m n o only q out =
 
 -- ---- the list of files that is lent
 
-pub kept_none : (folder : List ℕ) (files : Table (List ℕ)) → IsPathname folder → files ≡ [] → AreStagingTargets folder files
+pub kept_none : (folder : List ℕ) (files : Table (List ℕ)) → IsPathname folder → files ≡ []
+    → AreStagingTargets folder files
 kept_none folder files named none = subst (AreStagingTargets folder) (sym none) empty
   where
     empty : AreStagingTargets folder []

@@ -62,7 +62,8 @@ one_more {X} {s} {F} {H} {Good} {Whole} {G} old rest new xs x a m r good = recor
 -- where one more isn't there, no list is
 pub one_missing : {X : Type 0} {s : X → List ℕ} {F : X → Type 0} {H : List ℕ → Type 0} {Good Whole : List X → Type 0}
     {G : List ℕ → Type 0} (old rest mid new : List ℕ) (xs : List X) (o : Option X) (r : Option (List X))
-    → Along s Good Whole G old rest xs → OneMore s F H Whole G rest xs → ReadsSpelling s F H rest mid o → o ≡ None → r ≡ None
+    → Along s Good Whole G old rest xs → OneMore s F H Whole G rest xs → ReadsSpelling s F H rest mid o → o ≡ None → r
+    ≡ None
     → ReadsSpelling (λ ys. flat_map s ys) Whole G old new r
 one_missing {X} {s} {F} {H} {Good} {Whole} {G} old rest mid new xs o r a m b none is =
     subst (ReadsSpelling (λ ys. flat_map s ys) Whole G old new) (sym is) (record {

@@ -77,7 +77,8 @@ small_four e i b = (i, (b.written, (b.errors, b.optional)))
 pub branch_of_four : (i : ℕ) (rest mid new : List ℕ) (t : Bool) (n w e o : ℕ) → i < 8
     → TakesText (codes "branch") rest mid t → t ≡ true
     → ReadsSpelling spaced_four SmallFour GoesOnAtAll mid new (Some (n, w, e, o)) → n ≡ i
-    → ReadsSpelling branch_line (IsBranchAt i) GoesOnAtAll rest new (Some (i, record { written = w; errors = e; optional = o }))
+    → ReadsSpelling branch_line (IsBranchAt i) GoesOnAtAll rest new
+    (Some (i, record { written = w; errors = e; optional = o }))
 branch_of_four i rest mid new t n w e o few text taken r same = record {
   spelled = (
     (refl, record { written = r.spelled.0.1.0; errors = r.spelled.0.1.1.0; optional = r.spelled.0.1.1.1 }),
@@ -142,7 +143,8 @@ index_differs i rest mid new any t n w e o few text taken r apart = record {
 
 pub next_branch : (i : ℕ) (old rest mid new : List ℕ) (bs : List BranchCounts) (b : BranchCounts)
     → SomeBranches old rest bs i → rest ≡ codes "branch" ++ mid
-    → ReadsSpelling branch_line (IsBranchAt i) GoesOnAtAll rest new (Some (i, b)) → SomeBranches old new (bs ++ b ∷ []) (i + 1)
+    → ReadsSpelling branch_line (IsBranchAt i) GoesOnAtAll rest new (Some (i, b)) → SomeBranches old new (bs ++ b ∷ [])
+    (i + 1)
 next_branch i old rest mid new bs b some there r =
     let place : (i, b) ≡ (0 + length bs, b) = ap (λ k. (k, b)) (let c = some.count in let e : i ≡ 0 + length bs =
     omega arith in e) in
@@ -185,7 +187,8 @@ as_no_branches old new r = record {
 
 pub branch_missing : (i : ℕ) (old rest mid any new : List ℕ) (bs : List BranchCounts)
     → SomeBranches old rest bs i → rest ≡ codes "branch" ++ mid
-    → ReadsSpelling branch_line (IsBranchAt i) GoesOnAtAll rest any None → ReadsSpelling branch_count_lines AreBranches NoBranch old new None
+    → ReadsSpelling branch_line (IsBranchAt i) GoesOnAtAll rest any None
+    → ReadsSpelling branch_count_lines AreBranches NoBranch old new None
 branch_missing i old rest mid any new bs some there r = as_no_branches old new
     (one_missing old rest any new (enumerate_from 0 bs) None None some.along
     (one_more_branch i rest mid bs some.count there) r refl refl)
@@ -214,7 +217,8 @@ branches_end i old rest new bs t some one few text gone =
 
 -- no branch at all
 pub no_branch_at_all : (old rest new : List ℕ) (t : Bool) → SomeBranches old rest [] 0
-    → TakesText (codes "branch") rest new t → t ≡ false → ReadsSpelling branch_count_lines AreBranches NoBranch old new None
+    → TakesText (codes "branch") rest new t → t ≡ false
+    → ReadsSpelling branch_count_lines AreBranches NoBranch old new None
 no_branch_at_all old rest new t some text gone = record {
   spelled = tt;
   read = λ cs after f g e.
@@ -253,7 +257,8 @@ eight_branches old rest bs some = as_branches old rest bs are (all_read old rest
 -- ---- totals
 
 -- totals are four numbers, and then the branches
-abbrev pub totals_pairing : Pairing spaced_four SmallFour GoesOnAtAll (λ n bs. branch_count_lines bs) (λ n bs. AreBranches bs)
+abbrev pub totals_pairing : Pairing spaced_four SmallFour GoesOnAtAll (λ n bs. branch_count_lines bs)
+    (λ n bs. AreBranches bs)
     (λ c. spaced_four (c.records, c.bad, c.rows, c.unrouted) ++ branch_count_lines c.branches) AreTotals NoBranch
 totals_pairing = record {
   to = λ n bs. record { records = n.0; bad = n.1; rows = n.2; unrouted = n.3; branches = bs };
@@ -271,14 +276,16 @@ totals_pairing = record {
 }
 
 pub totals_spelled : (c : Counts)
-    → totals_text c ≡ codes "totals" ++ (spaced_four (c.records, c.bad, c.rows, c.unrouted) ++ branch_count_lines c.branches)
+    → totals_text c ≡ codes "totals" ++ (spaced_four (c.records, c.bad, c.rows, c.unrouted)
+    ++ branch_count_lines c.branches)
 totals_spelled c = append_assoc (codes "totals") (spaced_four (c.records, c.bad, c.rows, c.unrouted))
     (branch_count_lines c.branches)
 
 -- no branch at the first place
 pub none_at_first : (i : ℕ) (old rest new : List ℕ) (bs : List BranchCounts) (t : Bool) → SomeBranches old rest bs i
     → i ≡ 0
-    → TakesText (codes "branch") rest new t → t ≡ false → ReadsSpelling branch_count_lines AreBranches NoBranch old new None
+    → TakesText (codes "branch") rest new t → t ≡ false
+    → ReadsSpelling branch_count_lines AreBranches NoBranch old new None
 none_at_first i old rest new [] t some first text gone =
     no_branch_at_all old rest new t (subst (SomeBranches old rest []) first some) text gone
 none_at_first i old rest new (b ∷ bs) t some first text gone = let c = some.count in absurd (omega arith)

@@ -169,7 +169,8 @@ rest_of v s told =
           own.begun,
         )
 
-abbrev pub state_pairing : (v : Version) → Pairing (λ n. numbered_line (codes "run") (n ∷ [])) (λ n. n < 2 ^ 64) GoesOnAtAll
+abbrev pub state_pairing : (v : Version) → Pairing (λ n. numbered_line (codes "run") (n ∷ []))
+    (λ n. n < 2 ^ 64) GoesOnAtAll
     (λ n z. rest_text v z) (λ n z. AreRest v z) (state_rest v) (IsToldBy v) NoPart
 state_pairing v = record {
   to = λ n z. record { run = n; pipelines = z.0; totals = z.1.0; parts = z.1.1 };
@@ -223,7 +224,8 @@ begins : (bytes : List ℕ) (v : CodeVersion) (s : states.State) → ReadsAs (ve
 begins bytes v s r = r.spelled ∙ state_parts v s
 
 pub no_version : (bytes mid : List ℕ) (o : Option CodeVersion)
-    → ReadsSpelling (version_line (codes "gobblin-state")) AnyVersion GoesOnAtAll bytes mid o → o ≡ None → NoStateIn bytes
+    → ReadsSpelling (version_line (codes "gobblin-state")) AnyVersion GoesOnAtAll bytes mid o → o ≡ None
+    → NoStateIn bytes
 no_version bytes mid o r none v s is =
     let told = subst (λ w. ReadsAs w bytes s) (sym (version_back v)) is in
     no_more (code_of v)

@@ -1,7 +1,8 @@
 -- The numbers of a line, one after the other.
 use Rattle.std.proofs.Common.{◌<◌, ◌^◌, refl}
 use Rattle.gob_text.specs.Words.{EndsWord, GoesOnAtAll}
-use Rattle.gob_state.specs.Reads.{spaced_number, spaced_pair, spaced_triple, spaced_four, SmallPair, SmallTriple, SmallFour}
+use Rattle.gob_state.specs.Reads.{spaced_number, spaced_pair, spaced_triple, spaced_four, SmallPair, SmallTriple}
+use Rattle.gob_state.specs.Reads.{SmallFour}
 use Rattle.gob_state.proofs.Steps.{Pairing}
 
 abbrev pub triple_pairing : Pairing spaced_number (λ n. n < 2 ^ 64) EndsWord (λ n p. spaced_pair p) (λ n p. SmallPair p)
@@ -17,7 +18,8 @@ triple_pairing = record {
   goes = λ n p after f g h. refl;
 }
 
-abbrev pub four_pairing : Pairing spaced_number (λ n. n < 2 ^ 64) EndsWord (λ n t. spaced_triple t) (λ n t. SmallTriple t)
+abbrev pub four_pairing : Pairing spaced_number (λ n. n < 2 ^ 64) EndsWord (λ n t. spaced_triple t)
+    (λ n t. SmallTriple t)
     spaced_four SmallFour GoesOnAtAll
 four_pairing = record {
   to = λ n t. (n, t.0, t.1, t.2);

@@ -33,17 +33,21 @@ use Rattle.gob_ledger.proofs.Tiling.{all_added, finish_keeps}
 use Rattle.gob_marks.specs.Changed.{change_marks, marks_in, next_span}
 use Rattle.gob_state.proofs.SettingLemmas.{at_drop}
 use Rattle.gob_state.proofs.WriteLemmas.{dropped_all}
-use Rattle.gob_state.specs.Committed.{FreshUnitsFollow, AllOwed, AreKept, committed_units, judged_by, may_commit, part_added}
+use Rattle.gob_state.specs.Committed.{FreshUnitsFollow, AllOwed, AreKept, committed_units, judged_by, may_commit}
+use Rattle.gob_state.specs.Committed.{part_added}
 use Rattle.gob_state.specs.Committed.{parts_added, parts_finished, pipelines_with, totals_plus, totals_sum, verdict_in}
 use Rattle.gob_state.specs.Committed.{verdicts_in}
 
 -- ---- the branches of the first state
 
-zeros_push : (a n : ℕ) → map (λ _. no_branch_counts) (range_with_len a (n + 1)) ≡ map (λ _. no_branch_counts) (range_with_len a n)
+zeros_push : (a n : ℕ) → map (λ _. no_branch_counts) (range_with_len a (n + 1)) ≡ map (λ _. no_branch_counts)
+    (range_with_len a n)
     ++ no_branch_counts ∷ []
-zeros_push a n = ap (λ k. map (λ _. no_branch_counts) (range_with_len a k)) (let e : n + 1 ≡ suc n = omega arith in e) ∙ go a n
+zeros_push a n = ap (λ k. map (λ _. no_branch_counts) (range_with_len a k)) (let e : n + 1 ≡ suc n = omega arith in e)
+    ∙ go a n
   where
-    go : (a n : ℕ) → map (λ _. no_branch_counts) (range_with_len a (suc n)) ≡ map (λ _. no_branch_counts) (range_with_len a n)
+    go : (a n : ℕ) → map (λ _. no_branch_counts) (range_with_len a (suc n)) ≡ map (λ _. no_branch_counts)
+        (range_with_len a n)
         ++ no_branch_counts ∷ []
     go a zero = refl
     go a (suc n) = ap (λ (bs : List BranchCounts). no_branch_counts ∷ bs) (go (a + 1) n)
@@ -85,14 +89,16 @@ not_fresh u us q (inr other) = ap (λ b. cond (u.fresh && b) (u ∷ fresh_in q u
     off false = refl
 
 -- a fresh unit begins where its partition ends
-pub begins_at_end : (parts : Table Marks) (u : WorkUnit) (us : List WorkUnit) → FreshUnitsFollow parts (u ∷ us) → u.fresh ≡ true
+pub begins_at_end : (parts : Table Marks) (u : WorkUnit) (us : List WorkUnit) → FreshUnitsFollow parts (u ∷ us)
+    → u.fresh ≡ true
     → (u.lo ≡ (marks_in parts u.part).next) × (u.lo < u.hi)
 begins_at_end parts u us adds fresh =
     let first = subst (AreAdjacentFrom (next_of parts u.part)) (fresh_first u us u.part fresh (name_itself u.part))
     (adds u.part) in
     (first.0 ∙ next_marks parts u.part, first.1)
 
-pub added_fresh : (parts : Table Marks) (u : WorkUnit) (us : List WorkUnit) (new : Table Marks) → FreshUnitsFollow parts (u ∷ us)
+pub added_fresh : (parts : Table Marks) (u : WorkUnit) (us : List WorkUnit) (new : Table Marks)
+    → FreshUnitsFollow parts (u ∷ us)
     → u.fresh ≡ true → new ≡ change_marks (with_owed (next_span (marks_in parts u.part) u.hi)) u.part parts
     → new ≡ part_added parts u
 added_fresh parts u us new adds fresh is =
@@ -154,7 +160,8 @@ pub fresh_begins : (first parts : Table Marks) (units : List WorkUnit) (i : ℕ)
     → Adding first parts units i
     → i < length units → u ≡ get_or units i u → u.fresh ≡ true → (u.lo ≡ (marks_in parts u.part).next) × (u.lo < u.hi)
 fresh_begins first parts units i u a below is fresh =
-    begins_at_end parts u (drop (i + 1) units) (subst (FreshUnitsFollow parts) (at_drop units i u below is) a.adds) fresh
+    begins_at_end parts u (drop (i + 1) units) (subst (FreshUnitsFollow parts) (at_drop units i u below is) a.adds)
+    fresh
 
 pub fresh_added : (first parts new : Table Marks) (units : List WorkUnit) (i : ℕ) (u : WorkUnit)
     → Adding first parts units i
@@ -163,7 +170,8 @@ pub fresh_added : (first parts new : Table Marks) (units : List WorkUnit) (i : �
     (i + 1)
 fresh_added first parts new units i u a below is fresh made =
     one_added first parts new units i u a below is
-    (added_fresh parts u (drop (i + 1) units) new (subst (FreshUnitsFollow parts) (at_drop units i u below is) a.adds) fresh made)
+    (added_fresh parts u (drop (i + 1) units) new (subst (FreshUnitsFollow parts) (at_drop units i u below is) a.adds)
+    fresh made)
 
 pub old_added : (first parts : Table Marks) (units : List WorkUnit) (i : ℕ) (u : WorkUnit) → Adding first parts units i
     → i < length units → u ≡ get_or units i u → u.fresh ≡ false → Adding first parts units (i + 1)
@@ -266,7 +274,8 @@ totals_by policy all (u ∷ us) (v ∷ vs) c e =
   where
     cases : (b : Bool) → ((d : Counts) → totals_plus d (committed_units policy all (zip us vs)) ≡ totals_sum d
         (filter (may_commit policy all) vs))
-        → totals_plus c (cond b ((u, v) ∷ committed_units policy all (zip us vs)) (committed_units policy all (zip us vs)))
+        → totals_plus c (cond b ((u, v) ∷ committed_units policy all (zip us vs))
+        (committed_units policy all (zip us vs)))
         ≡ totals_sum c (cond b (v ∷ filter (may_commit policy all) vs) (filter (may_commit policy all) vs))
     cases true later = later (plus c (counts_in v))
     cases false later = later c
@@ -325,7 +334,8 @@ state_goes_on s pipeline units results policy counted any =
     same : length (verdicts_in results) ≡ length units
     same = length_verdicts results ∙ counted
 
-    made : (done : List Judged) → committed_units policy (list_all is_good (verdicts_in results)) (judged_by units results)
+    made : (done : List Judged) → committed_units policy (list_all is_good (verdicts_in results))
+        (judged_by units results)
         ≡ done
         → state_with_commit s pipeline (judged_by units results) done
         ≡ next_of_parts s pipeline units results policy (list_all is_good (verdicts_in results))
@@ -348,7 +358,8 @@ state_goes_on s pipeline units results policy counted any =
           parts = parts_finished p (parts_added s.parts units) (sym is i);
         })
 
-    cases : (done : List Judged) → committed_units policy (list_all is_good (verdicts_in results)) (judged_by units results)
+    cases : (done : List Judged) → committed_units policy (list_all is_good (verdicts_in results))
+        (judged_by units results)
         ≡ done
         → state_with_commit_or s pipeline (judged_by units results)
         (committed_units policy (list_all is_good (verdicts_in results)) (judged_by units results))
@@ -574,7 +585,8 @@ next_made s pipeline units results policy all any place run slice ps totals mark
     let adds = adding ∙ ap (λ t. parts_added t units) copied in
     let ends : finished ≡ parts_finished (pipeline_index pipeline s) (parts_added s.parts units)
     (committed_units policy whole (judged_by units results)) =
-    finishing ∙ (λ j. parts_finished (index j) (adds j) (committed_units policy (is_all j) (judged_by units results))) in
+    finishing ∙ (λ j. parts_finished (index j) (adds j) (committed_units policy (is_all j) (judged_by units results)))
+    in
     (λ j. record { run = running j; pipelines = piped j; totals = sums j; parts = ends j })
     ∙ sym (state_goes_on s pipeline units results policy counted
     (ap (λ a. list_any (may_commit policy a) (verdicts_in results)) (sym is_all) ∙ sym is_any ∙ some))

@@ -21,7 +21,8 @@ use Rattle.gob_ledger.proofs.StateLines.{parts_text_is}
 use Rattle.gob_ledger.proofs.WordLines.{line_bytes, lines_text}
 use Rattle.gob_text.specs.Words.{GoesOnAtAll}
 use Rattle.gob_state.specs.Reads.{ReadsSpelling, spaced_pair, spaced_triple, SmallPair, SmallTriple}
-use Rattle.gob_state.specs.Ranges.{done_numbers, IndexIs, IsDoneLine, open_range_text, IsOpenLine, range_text, IsRangeLine}
+use Rattle.gob_state.specs.Ranges.{done_numbers, IndexIs, IsDoneLine, open_range_text, IsOpenLine, range_text}
+use Rattle.gob_state.specs.Ranges.{IsRangeLine}
 use Rattle.gob_state.specs.Ranges.{NoRange, BeginsRange, RangeGoesOn, grown_marks, ranges_text, AreMarks}
 use Rattle.gob_state.specs.declared.ranges.RangeLine.{RangeLine}
 use Rattle.gob_state.specs.declared.ranges.RangeLine.TheVariants.{Done, Open}
@@ -98,7 +99,8 @@ fits_goes_on : (v : Version) (n : ℕ) (m : Marks) (r : Range) → FitsNext v n 
 fits_goes_on v n m (inl d) f = (f.1, f.2, f.3)
 fits_goes_on v n m (inr s) f = (f.1, f.2)
 
-pub both_fit : (v : Version) (n : ℕ) (m : Marks) (l : RangeLine) → IsRangeLine v l → RangeGoesOn n m l → FitsNext v n m.next
+pub both_fit : (v : Version) (n : ℕ) (m : Marks) (l : RangeLine) → IsRangeLine v l → RangeGoesOn n m l
+    → FitsNext v n m.next
     (range_of l)
 both_fit v n m (Done d) f g = (f, g.0, g.1, g.2)
 both_fit v n m (Open s) f g = (f, g.0, g.1)
@@ -374,7 +376,8 @@ range_malformed v n old rest mid new m some begins r = no_marks_read v n old new
 
 pub range_refused : (v : Version) (n : ℕ) (old rest mid new : List ℕ) (m : Marks) (l : RangeLine)
     → SomeRanges v n old rest m
-    → BeginsRange rest → ReadsSpelling (range_text v) (IsRangeLine v) GoesOnAtAll rest mid (Some l) → (RangeGoesOn n m l → ⊥)
+    → BeginsRange rest → ReadsSpelling (range_text v) (IsRangeLine v) GoesOnAtAll rest mid (Some l)
+    → (RangeGoesOn n m l → ⊥)
     → ReadsSpelling (ranges_text v) (AreMarks v n) NoRange old new None
 range_refused v n old rest mid new m l some begins r never = no_marks_read v n old new
     (one_missing old rest new new some.ranges None None some.along (one_more_range v n old rest m some begins)

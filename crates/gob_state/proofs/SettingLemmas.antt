@@ -331,7 +331,8 @@ next_pipeline n i old rest new ps p some below r = record {
 }
 
 pub pipeline_missing : (n i : ℕ) (old rest mid new : List ℕ) (ps : List (List ℕ)) (o : Option (List ℕ))
-    → SomePipelines n old rest ps i → i < n → ReadsSpelling pipeline_part IsKeptPipeline GoesOnAtAll rest mid o → o ≡ None
+    → SomePipelines n old rest ps i → i < n → ReadsSpelling pipeline_part IsKeptPipeline GoesOnAtAll rest mid o → o
+    ≡ None
     → ReadsSpelling (λ qs. flat_map pipeline_part qs) (ArePipelines n) GoesOnAtAll old new None
 pipeline_missing n i old rest mid new ps o some below r none =
     one_missing old rest mid new ps o None some.along (one_more_pipeline n i rest ps some.count below) r none refl

@@ -63,7 +63,8 @@ then_second {X} {Y} {Z} {sx} {FX} {GX} {sy} {FY} {sz} {FZ} {G} p old mid new x o
         let two = (subst (λ w. ReadsSpelling (sy w) (FY w) G mid new o) level b).read y after f.1 g one.1 in
         (two.0, two.1, level)
 
-    cases : (o : Option Y) → ReadsSpelling (sy x) (FY x) G mid new o → ReadsSpelling sz FZ G old new (option_map (p.to x) o)
+    cases : (o : Option Y) → ReadsSpelling (sy x) (FY x) G mid new o → ReadsSpelling sz FZ G old new
+        (option_map (p.to x) o)
     cases None b = record {
       spelled = tt;
       read = λ z after fz g e. absurd (no_more (p.second z) (found None b z after fz g e).0);
@@ -131,7 +132,8 @@ passed old new x r less h = record {
 
 -- nothing is read where less is asked for
 pub not_even : {X : Type 0} {s : X → List ℕ} {F H : X → Type 0} {G : List ℕ → Type 0} (old mid new : List ℕ)
-    (o r : Option X) → ReadsSpelling s F G old mid o → ((x : X) → H x → F x) → o ≡ None → r ≡ None → ReadsSpelling s H G old new r
+    (o r : Option X) → ReadsSpelling s F G old mid o → ((x : X) → H x → F x) → o ≡ None → r ≡ None
+    → ReadsSpelling s H G old new r
 not_even {X} {s} {F} {H} {G} old mid new o r a less none is = subst (ReadsSpelling s H G old new) (sym is) (record {
   spelled = tt;
   read = λ y after h g e. absurd (no_more y (sym none ∙ (a.read y after (less y h) g e).0));
@@ -155,7 +157,8 @@ pub renamed : {X Z : Type 0} {sx : X → List ℕ} {FX : X → Type 0} {sz : Z �
     → r ≡ option_map n.to o → ReadsSpelling sz FZ G old new r
 renamed {X} {Z} {sx} {FX} {sz} {FZ} {G} n old new o r a is = subst (ReadsSpelling sz FZ G old new) (sym is) (cases o a)
   where
-    found : (o : Option X) → ReadsSpelling sx FX G old new o → (z : Z) (after : List ℕ) → FZ z → G after → old ≡ sz z ++ after
+    found : (o : Option X) → ReadsSpelling sx FX G old new o → (z : Z) (after : List ℕ) → FZ z → G after → old ≡ sz z
+        ++ after
         → (o ≡ Some (n.from z)) × (new ≡ after)
     found o a z after f g e = a.read (n.from z) after (n.parts z f) g
         (e ∙ ap (λ w. sz w ++ after) (sym (n.back z f)) ∙ ap (λ t. t ++ after) (n.spells (n.from z)))
@@ -182,14 +185,16 @@ is_there {X} {s} {F} {G} old new o x r is = subst (ReadsSpelling s F G old new) 
 pub second_missing : {X Y Z : Type 0} {sx : X → List ℕ} {FX : X → Type 0} {GX : List ℕ → Type 0}
     {sy : X → Y → List ℕ} {FY : X → Y → Type 0} {sz : Z → List ℕ} {FZ : Z → Type 0} {G : List ℕ → Type 0}
     → (p : Pairing sx FX GX sy FY sz FZ G) → (old mid new : List ℕ) (x : X) (o : Option Y) (r : Option Z)
-    → ReadsSpelling sx FX GX old mid (Some x) → ReadsSpelling (sy x) (FY x) G mid new o → o ≡ None → r ≡ None → ReadsSpelling sz FZ G old new r
+    → ReadsSpelling sx FX GX old mid (Some x) → ReadsSpelling (sy x) (FY x) G mid new o → o ≡ None → r ≡ None
+    → ReadsSpelling sz FZ G old new r
 second_missing p old mid new x o r a b none is =
     then_second p old mid new x o r a b (is ∙ sym (ap (option_map (p.to x)) none))
 
 pub both_read : {X Y Z : Type 0} {sx : X → List ℕ} {FX : X → Type 0} {GX : List ℕ → Type 0}
     {sy : X → Y → List ℕ} {FY : X → Y → Type 0} {sz : Z → List ℕ} {FZ : Z → Type 0} {G : List ℕ → Type 0}
     → (p : Pairing sx FX GX sy FY sz FZ G) → (old mid new : List ℕ) (x : X) (y : Y) (o : Option Y) (r : Option Z)
-    → ReadsSpelling sx FX GX old mid (Some x) → ReadsSpelling (sy x) (FY x) G mid new o → o ≡ Some y → r ≡ Some (p.to x y)
+    → ReadsSpelling sx FX GX old mid (Some x) → ReadsSpelling (sy x) (FY x) G mid new o → o ≡ Some y → r ≡ Some
+    (p.to x y)
     → ReadsSpelling sz FZ G old new r
 both_read p old mid new x y o r a b there is =
     then_second p old mid new x o r a b (is ∙ sym (ap (option_map (p.to x)) there))

@@ -105,7 +105,8 @@ open_comes_first o ds os all = ap (flat_map (λ (l : Placed). l.1)) (put_lines_o
 -- one number more
 pub number_pushed : (old word : List ℕ) (ns : List ℕ) (i : ℕ) (a b c : List ℕ) → i < length ns
     → a ++ (flat_map spaced_number (drop i ns) ++ 10 ∷ []) ≡ old ++ numbered_line word ns → b ≡ a ++ 32 ∷ []
-    → c ≡ b ++ decimal (get_or ns i 0) → c ++ (flat_map spaced_number (drop (i + 1) ns) ++ 10 ∷ []) ≡ old ++ numbered_line word ns
+    → c ≡ b ++ decimal (get_or ns i 0) → c ++ (flat_map spaced_number (drop (i + 1) ns) ++ 10 ∷ []) ≡ old
+    ++ numbered_line word ns
 number_pushed old word ns i a b c below inv pb pc =
     let n = get_or ns i 0 in
     let rest = at_drop_or ns i 0 below in
@@ -119,7 +120,8 @@ number_pushed old word ns i a b c below inv pb pc =
 pub numbers_begin : (old word ns : List ℕ) (a : List ℕ) → a ≡ old ++ word
     → a ++ (flat_map spaced_number (drop 0 ns) ++ 10 ∷ []) ≡ old ++ numbered_line word ns
 numbers_begin old word ns a is =
-    ap (λ t. t ++ (flat_map spaced_number ns ++ 10 ∷ [])) is ∙ append_assoc old word (flat_map spaced_number ns ++ 10 ∷ [])
+    ap (λ t. t ++ (flat_map spaced_number ns ++ 10 ∷ [])) is ∙ append_assoc old word
+    (flat_map spaced_number ns ++ 10 ∷ [])
     ∙ ap (λ t. old ++ t) (sym (numbered_is word ns))
 
 pub dropped_all : {X : Type 0} (xs : List X) (i : ℕ) → length xs ≤ i → drop i xs ≡ []
@@ -207,7 +209,8 @@ text_more s old a b xs i x below is inv more =
 
 -- ---- the whole text
 
-pub state_written : (s : State) (a b c d e f g : List ℕ) → a ≡ [] → b ≡ a ++ numbered_line (codes "gobblin-state") (2 ∷ [])
+pub state_written : (s : State) (a b c d e f g : List ℕ) → a ≡ [] → b ≡ a ++ numbered_line (codes "gobblin-state")
+    (2 ∷ [])
     → c ≡ b ++ numbered_line (codes "run") (s.run ∷ []) → d ≡ c ++ pipelines_text version_2 s.pipelines
     → e ≡ d ++ totals_text s.totals → f ≡ e ++ parts_text version_2 s.parts → g ≡ f ++ (codes "end" ++ 10 ∷ [])
     → g ≡ state_spelling version_2 s

@@ -55,7 +55,8 @@ BeginsRange text = ((after : List ℕ) × (text ≡ codes "done" ++ after))
 abbrev pub TakesRange : Version → List ℕ → List ℕ → Option (Option RangeLine) → Type 0
 TakesRange v old new None = BeginsRange old × ReadsSpelling (range_text v) (IsRangeLine v) GoesOnAtAll old new None
 TakesRange v old new (Some None) = NoRange old × (new ≡ old)
-TakesRange v old new (Some (Some r)) = BeginsRange old × ReadsSpelling (range_text v) (IsRangeLine v) GoesOnAtAll old new
+TakesRange v old new (Some (Some r)) = BeginsRange old × ReadsSpelling (range_text v)
+    (IsRangeLine v) GoesOnAtAll old new
     (Some r)
 
 -- the range begins where the others end, and its pipeline is one of so many

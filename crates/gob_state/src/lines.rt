@@ -2,7 +2,8 @@
 ghost use Rattle.std.specs.Prelude.{◌≡◌, ◌<◌, ◌^◌, ◌∷◌, [], codes};
 ghost use Rattle.gob_bytes.specs.Words.{numbered_line};
 ghost use Rattle.gob_text.specs.Words.{EndsWord, GoesOnAtAll};
-ghost use Rattle.gob_state.specs.Reads.{ReadsSpelling, spaced_number, spaced_last, spaced_pair, spaced_triple, spaced_four};
+ghost use Rattle.gob_state.specs.Reads.{ReadsSpelling, spaced_number, spaced_last, spaced_pair, spaced_triple};
+ghost use Rattle.gob_state.specs.Reads.{spaced_four};
 ghost use Rattle.gob_state.specs.Reads.{SmallPair, SmallTriple, SmallFour};
 
 use gob_text::Words;
@@ -57,7 +58,8 @@ pub(crate) fn take_four(text: &mut Words) -> Option<(u64, u64, u64, u64)>
 
 /// A line of this word and a number.
 pub fn take_numbered(text: &mut Words, word: &[u8]) -> Option<u64>
-    ensures { ReadsSpelling (λ n. numbered_line word.now (n ∷ [])) (λ n. n < 2 ^ 64) GoesOnAtAll text.old text.new result }
+    ensures { ReadsSpelling (λ n. numbered_line word.now (n ∷ []))
+        (λ n. n < 2 ^ 64) GoesOnAtAll text.old text.new result }
 {
     if !text.take_text(word) {
         return None;

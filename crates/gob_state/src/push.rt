@@ -164,7 +164,10 @@ pub fn push_part(
     requires done { InOrder 0 (map (λ d. d.span) done.now) }
     requires open { InOrder 0 open.now }
     ensures { OnOk result (into.new.items ≡ into.old.items
-        ++ spelling.part_text spelling.version_2 (part.now, record { next = next; finished = done.now; owed = open.now })) }
+        ++ spelling.part_text spelling.version_2 (
+          part.now,
+          record { next = next; finished = done.now; owed = open.now },
+        )) }
 {
     push_head(into, part, next)?;
     push_ranges(into, done, open)?;

@@ -76,7 +76,8 @@ fn take_counted(
 // All but the first and the last line.
 fn take_state(alloc: Global, text: &mut Words, version: Version) -> Result<Option<State>, NoMemory>
     ensures { IfOk result (λ taken.
-        ReadsSpelling (state_rest (version_of version)) (IsToldBy (version_of version)) NoPart text.old text.new taken) }
+        ReadsSpelling (state_rest (version_of version))
+        (IsToldBy (version_of version)) NoPart text.old text.new taken) }
 {
     let Some(run) = take_numbered(text, b"run") else {
         return Ok(None);

@@ -27,7 +27,8 @@ use Rattle.gob_meaning.specs.Steps.{pieces_of, with_value, row_with_value, row_f
 use Rattle.gob_meaning.proofs.StepColumns.{told_missing, told_kind, columns_parts}
 use Rattle.gob_meaning.proofs.StepRows.{step_keeps}
 use Rattle.gob_steps.specs.Changes.{value_change_of}
-use Rattle.gob_steps.specs.Places.{column_place, places_of, values_at, is_below, are_apart, name_of, kept_by, changes_one}
+use Rattle.gob_steps.specs.Places.{column_place, places_of, values_at, is_below, are_apart, name_of, kept_by}
+use Rattle.gob_steps.specs.Places.{changes_one}
 use Rattle.gob_steps.specs.Places.{makes_many, row_with, rows_of_pieces}
 use Rattle.gob_steps.proofs.Named.{AtPlace, at_place, stands_there, all_there, there_from_kind, values_kept}
 use Rattle.gob_steps.proofs.Named.{places_below, places_apart, place_behind, named_there, named_values, left_there}

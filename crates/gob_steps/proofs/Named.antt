@@ -70,7 +70,8 @@ place_none name columns none =
 -- it stands at its place
 pub stands_there : (name : List ℕ) (columns : List Column) → is_there name columns ≡ true
     → stands_at name columns (column_place name columns) ≡ true
-stands_there name columns there = at_place (column_place name columns) (length columns) (place_within name columns there)
+stands_there name columns there = at_place (column_place name columns) (length columns)
+    (place_within name columns there)
   where
     at_place : (n m : ℕ) → n < m → is_at (cond (nat_lt n m) (Some n) None) n ≡ true
     at_place n m below = rw (lt-ltb n m below) (grind (arith, nat_tests))

@@ -117,11 +117,13 @@ staged_published job plan held u v folder bytes files m is staged clean_files = 
         )
 
     by_unit : (name content : List ℕ) (j : Judged) (path : List ℕ) → j ≡ (u, v)
-        → IsMade plan j.0.part (span_of j.0) (bytes_of_range held j.0.part (span_of j.0)) path content → name ≡ under job path
+        → IsMade plan j.0.part (span_of j.0) (bytes_of_range held j.0.part (span_of j.0)) path content → name
+        ≡ under job path
         → (f : StagedFile) × Contains files f × (f.to ≡ name) × (m f.from ≡ Some (clean content))
     by_unit name content j path same made_of called =
         let one : IsMade plan u.part (span_of u) (bytes_of_range held u.part (span_of u)) path content =
-        subst (λ (k : Judged). IsMade plan k.0.part (span_of k.0) (bytes_of_range held k.0.part (span_of k.0)) path content)
+        subst (λ (k : Judged). IsMade plan k.0.part (span_of k.0)
+        (bytes_of_range held k.0.part (span_of k.0)) path content)
         same made_of in
         let here : sent_to one.target given ≡ content = sends one.target ∙ one.sends in
         let some : sent_to one.target given ≢ [] = λ none. one.some (sym here ∙ none) in

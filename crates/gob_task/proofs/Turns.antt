@@ -61,7 +61,8 @@ piece_sent : (rules : TurnRulesValue) (t : TaskValue) (m : MachineValue) (a : At
     → AreSent rules.plan t.unit (sent_before_stop rules.plan t.unit.lo (fed ++ piece))
     (with_appends (appends_of rules.plan t.unit (filled_targets after)) contents)
 piece_sent rules t m a fed piece after old new p contents sent =
-    sent_alike plan t.unit (unit_sends plan t.unit fed ++ filled_targets after) (sent_before_stop plan t.unit.lo (fed ++ piece))
+    sent_alike plan t.unit (unit_sends plan t.unit fed ++ filled_targets after)
+    (sent_before_stop plan t.unit.lo (fed ++ piece))
     (with_appends (appends_of plan t.unit (filled_targets after)) contents) alike
     (sent_all plan t.unit p.range (filled_targets after) (unit_sends plan t.unit fed) contents (all_filled after p.short
     p.slots)

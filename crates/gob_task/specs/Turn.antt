@@ -97,7 +97,8 @@ pub record IsFed (rules : TurnRulesValue) (t u : TaskValue) (fed given : List �
   pub holds : Both (λ d e. HoldsSent rules.plan t fed d.files → HoldsSent rules.plan u (fed ++ given) e.files) old new
 
 -- where the unit hasn't failed, the task stands behind all these bytes, or the unit has no others
-abbrev pub TaskGoesOn : TurnRulesValue → TaskValue → TaskValue → List ℕ → List ℕ → Turn → Option Disk → Option Disk → Type 0
+abbrev pub TaskGoesOn : TurnRulesValue → TaskValue → TaskValue → List ℕ → List ℕ → Turn → Option Disk → Option Disk
+    → Type 0
 TaskGoesOn rules t u fed given turn.Going old new =
     StandsBehind rules.job rules.plan u (fed ++ given) × IsFed rules t u fed given old new
 TaskGoesOn rules t u fed given turn.Retry old new = Unit {0}

@@ -18,7 +18,8 @@ pub fn judge(plan: &Plan, unit: &Unit, machine: &Machine) -> Turn
     requires listed { unit.now.listed ≡ true }
     requires bytes { unit.now.lo < unit.now.hi }
     requires lo { machine.now.lo ≡ unit.now.lo }
-    ensures { (fed : Items ℕ) → WasFed plan.now machine.now fed → TellsTurn result (end_of_bytes plan.now unit.now fed) }
+    ensures { (fed : Items ℕ) → WasFed plan.now machine.now fed → TellsTurn result
+        (end_of_bytes plan.now unit.now fed) }
 {
     if let Some(cause) = machine.stopped() {
         return Turn::Failed(cause);

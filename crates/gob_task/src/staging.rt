@@ -30,7 +30,8 @@ pub fn stage<V: Volume>(
     requires spelled { AreSpelled plan.now unit.now names.old }
     requires there { IfSome (V.disk volume.old) (λ d. AreThere staged.old d.files) }
     ensures spelled { AreSpelled plan.now unit.now names.new }
-    ensures appended { OnOk result (Appended (appends_of plan.now unit.now (filled_targets buffers.now)) staged.old staged.new
+    ensures appended { OnOk result (Appended (appends_of plan.now unit.now (filled_targets buffers.now)) staged.old
+        staged.new
         (V.disk volume.old) (V.disk volume.new)) }
     ensures slots { OnOk result (AreSlots buffers.now) }
     ensures below { Along (OnlyBelow staged.old.folder) (V.disk volume.old) (V.disk volume.new) }

@@ -112,7 +112,8 @@ minus_from_parse : {E : Type 0} (b : ℕ) (bs : List ℕ) (r : Result ℤ E) →
     list_all is_ascii_digit bs ≡ true → result_ok r ≡ option_map (λ n. neg_ℤ (pos n)) (read_up_to (2 ^ 63) bs)
 minus_from_parse {E} b bs (Ok z) parsed minus digits =
     let p = parse_signed_minus own {E = E} w64 (b ∷ bs) (Ok z) parsed minus in
-    ap Some p.1 ∙ ap (option_map (λ n. neg_ℤ (pos n))) (sym (read_up_to_from _ bs (is_digits-yes bs digits p.0.1) p.0.2))
+    ap Some p.1 ∙ ap (option_map (λ n. neg_ℤ (pos n))) (sym
+    (read_up_to_from _ bs (is_digits-yes bs digits p.0.1) p.0.2))
 minus_from_parse {E} b bs (Err e) parsed minus digits =
     let refused = parse_signed_minus own {E = E} w64 (b ∷ bs) (Err e) parsed minus in
     ap (option_map (λ n. neg_ℤ (pos n)))

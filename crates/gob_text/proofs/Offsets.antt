@@ -9,7 +9,8 @@ drop-set_here (x ∷ xs) zero v inside = refl
 drop-set_here (x ∷ xs) (suc k) v inside = drop-set_here xs k v (omega arith)
 
 pub padded_step : (i n : ℕ) (digits : List ℕ) → 0 < i → i ≤ length digits →
-    padded_digits (i - 1) (n / 10) ++ drop (i - 1) (set digits (i - 1) (48 + n % 10)) ≡ padded_digits i n ++ drop i digits
+    padded_digits (i - 1) (n / 10) ++ drop (i - 1) (set digits (i - 1) (48 + n % 10)) ≡ padded_digits i n
+    ++ drop i digits
 unfolding padded_digits
 padded_step zero n digits some inside = absurd (omega arith)
 padded_step (suc k) n digits some inside =

@@ -156,7 +156,8 @@ byte_column name kind = record { name = name; kind = kind }
 abbrev pub two_outputs : Plan
 two_outputs = record plain_plan {
   format = format.Json;
-  columns = byte_column (codes "ip") kind.Text ∷ byte_column (codes "path") kind.Text ∷ byte_column (codes "status") kind.Int ∷ [];
+  columns = byte_column (codes "ip") kind.Text ∷ byte_column (codes "path") kind.Text ∷ byte_column
+      (codes "status") kind.Int ∷ [];
   branches =
       record {
         steps = step.Keep (codes "status" ∷ codes "path" ∷ []) ∷ [];
@@ -187,7 +188,8 @@ abbrev pub RefusalIs : Refusal × List ℕ → Type 0
 RefusalIs e = refusal_text e.0 ≡ e.1
 
 pub record WorkedRefusals : Type 0 where
-  pub words : RefusalIs (usage, codes "usage: run JOB, recover JOB, report JOB, check JOB, drill N, drill N stops\nstatus 2\n")
+  pub words : RefusalIs
+      (usage, codes "usage: run JOB, recover JOB, report JOB, check JOB, drill N, drill N stops\nstatus 2\n")
   pub absent : RefusalIs (no_job, codes "refused no-job\nstatus 3\n")
   pub no_text : RefusalIs (not_utf8, codes "refused not-utf8\nstatus 3\n")
   pub escape : RefusalIs (bad_escape 2, codes "refused bad-escape 2\nstatus 3\n")

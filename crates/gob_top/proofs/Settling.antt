@@ -89,7 +89,8 @@ only_settles job w old new before now way = record {
 
 -- as the damage that is due is told
 abbrev DamageTold : List ℕ → Option Disk → Told → Type 0
-DamageTold job old t = IfSome old (λ d. (name : List ℕ) → IsDamaged job d.files name → TellsFirst (texts.damaged name) t)
+DamageTold job old t = IfSome old (λ d. (name : List ℕ) → IsDamaged job d.files name → TellsFirst
+    (texts.damaged name) t)
 
 -- the clause on damage of what settles
 abbrev pub SettlesDue : List ℕ → Option Disk → Option Disk → Result Settled SettleFault → Type 0
@@ -152,7 +153,8 @@ pub all_recovered : (job : List ℕ) (w : World) (old new : Option Disk) (before
     → RecoverAnswered job (filed w old before) (filed w new now) t
 all_recovered job w old new before now s t way due settles was tells = record {
   caused = recovered s.was_open was
-      (where_filed (SettledTo job) w old new before now (settled_to job) (maps_both settles (on_its_way way))) (inl tells);
+      (where_filed (SettledTo job) w old new before now (settled_to job) (maps_both settles (on_its_way way)))
+      (inl tells);
   due = settled_due job old new s t due;
   settles = only_settles job w old new before now way;
 }
@@ -247,7 +249,8 @@ pub all_reported : (job : List ℕ) (w : World) (old new : Option Disk) (before 
     → t ≡ (0, state_report job l.state) → ReportAnswered job (filed w old before) (filed w new now) t
 all_reported job w old new before now l t way due finds tells = record {
   caused = reported l.state (entry_is job l old new finds)
-      (where_filed (SettledTo job) w old new before now (settled_to job) (maps_both settles (on_its_way way))) (inl tells);
+      (where_filed (SettledTo job) w old new before now (settled_to job) (maps_both settles (on_its_way way)))
+      (inl tells);
   due = loaded_due job old l t due;
   settles = only_settles job w old new before now way;
 }

@@ -18,7 +18,8 @@ check_told job (Err r) = refusal_told r
 -- each answer with its cause
 pub data IsChecked (job : List ℕ) (old new : World) (t : Told) : Type 0 where
   checked : (r : Read) → FileGives job old.disk r → Tells (check_told job r) t → new ≡ old → IsChecked job old new t
-  failure : Tells (refusal_told texts.volume_fault) t → Rose old.volume_faults new.volume_faults → IsChecked job old new t
+  failure : Tells (refusal_told texts.volume_fault) t → Rose old.volume_faults new.volume_faults
+      → IsChecked job old new t
   starved : t ≡ refusal_told texts.memory → IsChecked job old new t
 
 -- nothing is changed, and the source isn't asked

@@ -47,7 +47,8 @@ pub data IsRecovered (job : List ℕ) (old new : World) (t : Told) : Type 0 wher
   -- the open sequence can't be done, and nothing was changed
   damaged : (name : List ℕ) → IfSome old.disk (λ d. IsDamaged job d.files name) → new.disk ≡ old.disk
       → Tells (refusal_told (texts.damaged name)) t → IsRecovered job old new t
-  failure : Tells (refusal_told texts.volume_fault) t → Rose old.volume_faults new.volume_faults → IsRecovered job old new t
+  failure : Tells (refusal_told texts.volume_fault) t → Rose old.volume_faults new.volume_faults
+      → IsRecovered job old new t
   starved : t ≡ refusal_told texts.memory → IsRecovered job old new t
 
 pub record RecoverAnswered (job : List ℕ) (old new : World) (t : Told) : Type 0 where
@@ -65,7 +66,8 @@ pub data IsReported (job : List ℕ) (old new : World) (t : Told) : Type 0 where
   -- a file of the job can't be read
   damaged : (name : List ℕ) → WhereFiled (LeftBroken job name) old new → Tells (refusal_told (texts.damaged name)) t
       → IsReported job old new t
-  failure : Tells (refusal_told texts.volume_fault) t → Rose old.volume_faults new.volume_faults → IsReported job old new t
+  failure : Tells (refusal_told texts.volume_fault) t → Rose old.volume_faults new.volume_faults
+      → IsReported job old new t
   starved : t ≡ refusal_told texts.memory → IsReported job old new t
 
 pub record ReportAnswered (job : List ℕ) (old new : World) (t : Told) : Type 0 where

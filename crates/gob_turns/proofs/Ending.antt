@@ -127,7 +127,8 @@ stopped_left rules turns units listed states core k losses first old now n may u
   told = λ job s works is held. pulls_of job s works (under.told job s works is held);
 }
   where
-    pulls_of : (job : Job) (s : Supply) → IsWorkedBy rules turns job → AreRunTurns job s units states k losses old.supply
+    pulls_of : (job : Job) (s : Supply) → IsWorkedBy rules turns job
+        → AreRunTurns job s units states k losses old.supply
         → AreFirstPulls job s units losses now.supply
     pulls_of job s works t =
         let waiting : List Waiting = all_waiting job s.held units states in

@@ -260,7 +260,8 @@ failed_way rules i u p q t v (turn.Failed c) old mid new is at taken then supply
     record {
       stands = subst (λ x. StandsAs rules u i new.supply new.disk x) (sym then.0) tt;
       fewer = omega (arith, some, after, before);
-      failures = once_more (is_fault (failed c)) (failures_so_far rules.max_retries q) (failures_so_far rules.max_retries p)
+      failures = once_more (is_fault (failed c)) (failures_so_far rules.max_retries q)
+          (failures_so_far rules.max_retries p)
           rules.max_retries given once (omega (arith, failing, over));
       cause = λ e. subst (λ n. Rose old.source_faults n) (sym faults) taken.rose;
       told = λ job s w by told_old within waits.

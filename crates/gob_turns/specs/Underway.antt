@@ -89,7 +89,8 @@ StoppedIsTold rules i u p old new = (job : Job) (s : Supply) (w : Waiting) → G
 -- ---- all units
 
 -- the turns that were had are those of the run, and these are its pulls
-pub record AreRunTurns (job : Job) (s : Supply) (units : List WorkUnit) (states : List Progress) (k : ℕ) (failed : List ℕ)
+pub record AreRunTurns (job : Job) (s : Supply) (units : List WorkUnit) (states : List Progress) (k : ℕ)
+    (failed : List ℕ)
     (now : Option Supply) : Type 0 where
   pub had : List TakenTurn
   pub so_far : TurnsSoFar job s.held units failed k had (all_waiting job s.held units states)

@@ -22,7 +22,8 @@ impl Model for Stored {
 
     ghost Value = { File };
 
-    ghost view = { λ s. if s.is_dirty then dirty (take s.kept s.bytes.items) (drop s.kept s.bytes.items) else clean s.bytes.items };
+    ghost view = { λ s. if s.is_dirty then dirty (take s.kept s.bytes.items) (drop s.kept s.bytes.items)
+        else clean s.bytes.items };
 
     ghost invariant = { λ s. s.kept ≤ length s.bytes.items };
 }

@@ -162,9 +162,11 @@ loop-places-preserved g c =
     record {
       so = loop_more rules l0 units results vs i v c.loop-places.last after (omega arith) c.places-item.is
           c.requires.can at
-          (subst (λ (ps : List ℕ). LeadsToNext rules c.loop-places.last (picked_items units ps) (picked_items results ps) after)
+          (subst (λ (ps : List ℕ). LeadsToNext rules c.loop-places.last (picked_items units ps)
+          (picked_items results ps) after)
           c.as_slice.ensures.value c.in_ok-last.ensures.value)
-          (subst (λ (ps : List ℕ). AddsMaps (GroupEnds rules c.loop-places.last (picked_items units ps) (picked_items results ps)
+          (subst (λ (ps : List ℕ). AddsMaps (GroupEnds rules c.loop-places.last (picked_items units ps)
+          (picked_items results ps)
           after) now new) c.as_slice.ensures.value c.in_ok-last.ensures.ok)
           (subst (λ (ps : List ℕ). AddsMaps (LeavesStaging rules.job.now (all_pairs (picked_items results ps))) now new)
           c.as_slice.ensures.value c.in_ok-last.ensures.rest);

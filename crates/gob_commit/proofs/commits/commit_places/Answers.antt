@@ -40,7 +40,8 @@ commit_group-requires-clause-there g c =
     let er : c.as_slice-2.result.now ≡ rs = c.as_slice-2.ensures ∙ c.in_ok-made.ensures in
     let rules = c.args.rules.now in
     let l = c.args.loaded in
-    subst (λ (y : List UnitResult). IfSome (g.V.Volume.disk c.args.volume.now) (λ d. AreReadyToMove rules.job.now (all_pairs
+    subst (λ (y : List UnitResult). IfSome (g.V.Volume.disk c.args.volume.now)
+    (λ d. AreReadyToMove rules.job.now (all_pairs
     y) d.files))
     (sym er) c.requires.there
 

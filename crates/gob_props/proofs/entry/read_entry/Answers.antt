@@ -1,6 +1,7 @@
 use Rattle.std.proofs.Common.{◌≡◌, ℕ, List, Option, Some, None, String, Global, string_bytes, option_map}
 use Rattle.std.proofs.Common.{encode_utf8_all, take, drop, sym, ap, ◌∙◌}
-use Rattle.gob_props.specs.Properties.{without_white_space, without_mark, key_part, value_part, without_escapes, key_value_of}
+use Rattle.gob_props.specs.Properties.{without_white_space, without_mark, key_part, value_part, without_escapes}
+use Rattle.gob_props.specs.Properties.{key_value_of}
 use Rattle.gob_props.proofs.EscapeLemmas.{entry_no_key, entry_no_value, entry_both}
 use Rattle.gob_props.proofs.entry.read_entry.Goals as goal
 
@@ -8,8 +9,10 @@ use Rattle.gob_props.proofs.entry.read_entry.Goals as goal
 key_is : (text key : List ℕ) (n m : ℕ) → key ≡ take n text → n ≡ m → key ≡ take m text
 key_is text key n m front same = front ∙ ap (λ k. take k text) same
 
-value_is : (text back first unmarked value : List ℕ) (n m : ℕ) → back ≡ drop n text → n ≡ m → first ≡ without_white_space back →
-    unmarked ≡ without_mark first → value ≡ without_white_space unmarked → value ≡ without_white_space (without_mark (without_white_space (drop m text)))
+value_is : (text back first unmarked value : List ℕ) (n m : ℕ) → back ≡ drop n text → n ≡ m → first
+    ≡ without_white_space back →
+    unmarked ≡ without_mark first → value ≡ without_white_space unmarked → value ≡ without_white_space
+    (without_mark (without_white_space (drop m text)))
 value_is text back first unmarked value n m rest same a b d = d
     ∙ ap without_white_space (b ∙ ap without_mark (a ∙ ap without_white_space (rest ∙ ap (λ k. drop k text) same)))
 

@@ -6,7 +6,8 @@ use Rattle.gob_props.specs.Properties.{without_white_space}
 use Rattle.gob_props.proofs.lines.trimmed.Given as goal
 
 abbrev pub invariant-loop-first : goal.invariant-loop-first
-invariant-loop-first l = shadow (Utf8 l.left) × (without_white_space (chars l.text) ≡ without_white_space (chars l.left))
+invariant-loop-first l = shadow (Utf8 l.left) × (without_white_space (chars l.text) ≡ without_white_space
+    (chars l.left))
 
 abbrev pub decreases-loop-first : goal.decreases-loop-first
 decreases-loop-first l = length l.left

@@ -10,7 +10,8 @@ loop-i-preserved c =
     in
     part_counted c.args.counts.now c.loop-i.counts _ c.args.table.now c.loop-i.i
     (c.in-Some.field-0-0.now, c.in-Some.marks.now) at.0 at.1 c.loop-i.invariant
-    (c.in_ok-count_done-in-Some.ensures ∙ ap (λ ds. counted_from 0 c.loop-i.counts (ranges_made_by ds)) c.done.ensures.done)
+    (c.in_ok-count_done-in-Some.ensures ∙ ap (λ ds. counted_from 0 c.loop-i.counts (ranges_made_by ds))
+    c.done.ensures.done)
 
 pub returns : goal.returns
 returns c =

@@ -45,7 +45,8 @@ returns-in_default-2 c =
       totals = c.state.inside.totals;
       parts = c.state.inside.marks;
     } in
-    subst (λ (x : State). ReadsSpelling (rest_text_over (version_of c.args.version) x) (RestAfter (version_of c.args.version) x)
+    subst (λ (x : State). ReadsSpelling (rest_text_over (version_of c.args.version) x)
+    (RestAfter (version_of c.args.version) x)
     NoPart
     c.args.text.now c.take_counted.new.text None) c.state.view_is
     (counted_missing (version_of c.args.version) s _ _ _ c.in_ok-pipelines.field-0 c.in-Some.pipelines
@@ -61,7 +62,8 @@ returns c =
       totals = c.state.inside.totals;
       parts = c.state.inside.marks;
     } in
-    subst (λ (x : State). ReadsSpelling (rest_text_over (version_of c.args.version) x) (RestAfter (version_of c.args.version) x)
+    subst (λ (x : State). ReadsSpelling (rest_text_over (version_of c.args.version) x)
+    (RestAfter (version_of c.args.version) x)
     NoPart
     c.args.text.now c.take_counted.new.text (Some (c.in-Some.pipelines, c.in-Some-2.counted))) c.state.view_is
     (rest_there (version_of c.args.version) s _ _ _ c.in_ok-pipelines.field-0 c.in-Some.pipelines c.len-count.result

@@ -15,7 +15,8 @@ use Rattle.gob_seq.proofs.settling.settle.Goals as goal
 
 pub returns-in_err-was_open-clause-same : goal.returns-in_err-was_open-clause-same
 returns-in_err-was_open-clause-same g c =
-    along_map (SettlingGoesOn c.args.job.now) (SettlesTheSame c.args.job.now) (λ m n go. go.same) c.finish_open.ensures.goes
+    along_map (SettlingGoesOn c.args.job.now) (SettlesTheSame c.args.job.now)
+    (λ m n go. go.same) c.finish_open.ensures.goes
 
 pub returns-in_err-was_open-clause-images : goal.returns-in_err-was_open-clause-images
 returns-in_err-was_open-clause-images g c =

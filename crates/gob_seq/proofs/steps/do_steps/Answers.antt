@@ -28,7 +28,8 @@ loop-step-preserved g c = record {
 }
 
 pub returns-clause-maps : goal.returns-clause-maps
-returns-clause-maps g c = done_front (map commit_step_of c.args.steps.now) c.loop-step.step-index c.loop-step.invariant.maps
+returns-clause-maps g c = done_front (map commit_step_of c.args.steps.now) c.loop-step.step-index
+    c.loop-step.invariant.maps
 
 pub returns-clause-ok : goal.returns-clause-ok
 returns-clause-ok g c =

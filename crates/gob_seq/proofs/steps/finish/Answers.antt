@@ -15,15 +15,18 @@ returns-in_err-do_steps-clause-maps g c =
 
 pub returns-in_err-remove-clause-maps : goal.returns-in_err-remove-clause-maps
 returns-in_err-remove-clause-maps g c =
-    finish_left c.args.name.now (map commit_step_of c.args.steps.now) c.do_steps.ensures.maps c.in_ok-do_steps.ensures.ok
+    finish_left c.args.name.now (map commit_step_of c.args.steps.now) c.do_steps.ensures.maps
+    c.in_ok-do_steps.ensures.ok
     (along_whole c.remove.ensures.change)
 
 pub returns-clause-maps : goal.returns-clause-maps
 returns-clause-maps g c =
-    finish_left c.args.name.now (map commit_step_of c.args.steps.now) c.do_steps.ensures.maps c.in_ok-do_steps.ensures.ok
+    finish_left c.args.name.now (map commit_step_of c.args.steps.now) c.do_steps.ensures.maps
+    c.in_ok-do_steps.ensures.ok
     (along_whole c.remove.ensures.change)
 
 pub returns-clause-ok : goal.returns-clause-ok
 returns-clause-ok g c =
-    ends_then (do_steps (map commit_step_of c.args.steps.now)) (after_remove c.args.name.now) c.in_ok-do_steps.ensures.ok
+    ends_then (do_steps (map commit_step_of c.args.steps.now))
+    (after_remove c.args.name.now) c.in_ok-do_steps.ensures.ok
     (changed_ends (after_remove c.args.name.now) _ _ c.in_ok-remove.ensures.change.ok)

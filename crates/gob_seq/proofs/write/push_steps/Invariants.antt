@@ -5,4 +5,5 @@ use Rattle.gob_seq.specs.Steps.{commit_step_of}
 use Rattle.gob_seq.proofs.write.push_steps.Given as goal
 
 abbrev pub invariant-loop-step : goal.invariant-loop-step
-invariant-loop-step l = l.into.items ≡ l.fn.into.items ++ flat_map step_line (take l.step-index (map commit_step_of l.steps))
+invariant-loop-step l = l.into.items ≡ l.fn.into.items ++ flat_map step_line
+    (take l.step-index (map commit_step_of l.steps))

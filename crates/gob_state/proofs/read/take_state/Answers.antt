@@ -22,7 +22,8 @@ returns-in_default-3 c = second_missing
     (second_missing (rest_pairing (version_of c.args.version)) _ c.take_all_pipelines.new.text _ c.in-Some-2.pipelines
     c.in_ok-totals.field-0 None
     (is_there _ _ _ c.in-Some-2.pipelines c.in_ok-pipelines.ensures c.in-Some-2.is)
-    (subst (λ k. ReadsSpelling (counted_text (version_of c.args.version)) (AreCounted (version_of c.args.version) k) NoPart
+    (subst (λ k. ReadsSpelling (counted_text (version_of c.args.version))
+    (AreCounted (version_of c.args.version) k) NoPart
     c.take_all_pipelines.new.text c.take_counted.new.text c.in_ok-totals.field-0) c.len-count.ensures
     c.in_ok-totals.ensures)
     c.in_default-3.is refl) refl refl
@@ -34,7 +35,8 @@ returns c = both_read (state_pairing (version_of c.args.version)) _ c.take_numbe
     (both_read (rest_pairing (version_of c.args.version)) _ c.take_all_pipelines.new.text _ c.in-Some-2.pipelines
     (c.in-Some-3.totals, c.in-Some-3.marks) c.in_ok-totals.field-0 _
     (is_there _ _ _ c.in-Some-2.pipelines c.in_ok-pipelines.ensures c.in-Some-2.is)
-    (subst (λ k. ReadsSpelling (counted_text (version_of c.args.version)) (AreCounted (version_of c.args.version) k) NoPart
+    (subst (λ k. ReadsSpelling (counted_text (version_of c.args.version))
+    (AreCounted (version_of c.args.version) k) NoPart
     c.take_all_pipelines.new.text c.take_counted.new.text c.in_ok-totals.field-0) c.len-count.ensures
     c.in_ok-totals.ensures)
     c.in-Some-3.is refl) refl refl

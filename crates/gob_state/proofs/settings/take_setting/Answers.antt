@@ -20,7 +20,8 @@ pub returns-then-branch : goal.returns-then-branch
 returns-then-branch c =
     let same = c.in-Ok.ensures.cases.0 in
     let is = c.in_ok-is_setting.ensures.0 c.if-branch.true in
-    subst (λ (l : List ℕ). ReadsSpelling whole_line IsSettingLine GoesOnAtAll c.args.text.now c.take_line.new.self (Some l))
+    subst (λ (l : List ℕ). ReadsSpelling whole_line IsSettingLine GoesOnAtAll c.args.text.now c.take_line.new.self
+    (Some l))
     (sym same)
     (passed _ _ c.in-Some.bytes.now (from_takes _ _ (Some c.in-Some.bytes.now) c.in-Some.ensures) setting_is_line
     (subst IsSettingLine same is))

@@ -10,7 +10,8 @@ returns-in_err-settled g c = λ w.
     let p = err_from_is_err_and c.from_residual.result c.from_residual.ensures.1 in
     let s = c.in_err-settled.ensures in
     not_recovered c.args.job.now w _ _ _ _ c.in_err-settled.field-0.0 _
-    (record { images = s.images; names = s.readers; staged = s.unstages; below = s.below; later = s.goes_on }) s.damaged s.err s.due
+    (record { images = s.images; names = s.readers; staged = s.unstages; below = s.below; later = s.goes_on })
+    s.damaged s.err s.due
     (told_stopped p.1 p.2)
 
 pub returns-in_err-text : goal.returns-in_err-text
@@ -25,5 +26,6 @@ pub returns : goal.returns
 returns g c = λ w.
     let s = c.in_ok-settled.ensures in
     all_recovered c.args.job.now w _ _ _ _ c.in_ok-settled.settled _
-    (record { images = s.images; names = s.readers; staged = s.unstages; below = s.below; later = s.goes_on }) s.due s.ok s.was_open
+    (record { images = s.images; names = s.readers; staged = s.unstages; below = s.below; later = s.goes_on }) s.due
+    s.ok s.was_open
     (λ i. (0, c.in_ok-text.ensures i))

@@ -43,7 +43,8 @@ loop-span-preserved c =
     let next : suc c.loop-span.span-index ≡ c.loop-span.span-index + 1 = omega arith in
     c.loop-span.invariant ∙ ap first_kill (left_from bytes c.self.inside.spans.items c.deref-span-items.result.now
     c.args.self.now c.loop-span.span-index c.self.view_is c.deref-span-items.ensures.value c.loop-span-test.true)
-    ∙ not_killed s.branch s.end (bytes_between s.place_end s.record_end bytes) (first_kill later) c.in_default.not-Killed
+    ∙ not_killed s.branch s.end (bytes_between s.place_end s.record_end bytes)
+    (first_kill later) c.in_default.not-Killed
     ∙ ap (λ k. first_kill (drop k c.args.self.now)) next
 
 pub returns : goal.returns
