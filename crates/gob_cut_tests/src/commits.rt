@@ -28,11 +28,13 @@ const NOTHING: &[u8] =
 
 /// The line between two others is owed.
 const ONE_OWED: &[u8] =
-    b"gobblin-state 2\nrun 1\npipelines 1\npipeline 1\nx=1\ntotals 2 0 2 0\nbranch 0 2 0 0\npartition a.log 6\ndone 0 2 0\nopen 2 4\ndone 4 6 0\nend\n";
+    b"gobblin-state 2\nrun 1\npipelines 1\npipeline 1\nx=1\ntotals 2 0 2 0\nbranch 0 2 0 0\npartition a.log 6\n\
+        done 0 2 0\nopen 2 4\ndone 4 6 0\nend\n";
 
 /// The same at the end of the run number, where the totals are at theirs, with two branches.
 const AT_THE_END: &[u8] =
-    b"gobblin-state 2\nrun 18446744073709551615\npipelines 1\npipeline 1\nx=1\ntotals 18446744073709551615 0 2 0\nbranch 0 2 0 0\nbranch 1 7 0 0\npartition a.log 6\ndone 0 2 0\nopen 2 4\ndone 4 6 0\nend\n";
+    b"gobblin-state 2\nrun 18446744073709551615\npipelines 1\npipeline 1\nx=1\ntotals 18446744073709551615 0 2 0\n\
+        branch 0 2 0 0\nbranch 1 7 0 0\npartition a.log 6\ndone 0 2 0\nopen 2 4\ndone 4 6 0\nend\n";
 
 const THREE_LINES: &[Given] = &[("a.log", "a\nK\nb\n")];
 
@@ -108,7 +110,8 @@ const CASES: [Case; 12] = [
         made: &[FAILED, GOOD, FAILED],
         pipeline: "x=1\n",
         policy: CommitPolicy::Successful,
-        after: "run 2 pipelines 1 records 3 written 3; a.log 8 done 0-2 by 0, 4-6 by 0, 6-8 by 0 open 2-4; b 2 open 0-2;",
+        after: "run 2 pipelines 1 records 3 written 3; a.log 8 done 0-2 by 0, 4-6 by 0, 6-8 by 0 open 2-4; b 2 open \
+            0-2;",
     },
     // The last of three fails: what was taken goes on behind it, and it is owed.
     Case {
@@ -134,7 +137,8 @@ const CASES: [Case; 12] = [
         made: &[GOOD],
         pipeline: "x=1\n",
         policy: CommitPolicy::Full,
-        after: "run 18446744073709551615 pipelines 1 records 18446744073709551615 written 3 7; a.log 6 done 0-2 by 0, 2-4 by 0, 4-6 by 0;",
+        after: "run 18446744073709551615 pipelines 1 records 18446744073709551615 written 3 7; a.log 6 done 0-2 by \
+            0, 2-4 by 0, 4-6 by 0;",
     },
     // Half a line waits, and is taken once it is whole.
     Case {

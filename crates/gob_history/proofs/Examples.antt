@@ -159,7 +159,8 @@ bytes_are archive at = ap (λ o. take 4 (drop 0 (unwrap_or o []))) at
 
 made_file : IsMade plain_plan (codes "a.log") (record { lo = 0; hi = 4 }) (codes "x\ny\n")
     (codes "out/0/a.log@00000000000000000000-00000000000000000004.txt") (codes "x\ny\n")
-unfolding digits padded_digits offset escape_of target_name sent_to unit_fold lines_from line_rows record_of made_in_branch
+unfolding digits padded_digits offset escape_of target_name sent_to unit_fold lines_from line_rows record_of
+    made_in_branch
     line_made ruling picks place_of is_utf8 chars lib.Utf8.encode
 made_file = record { target = out 0 []; sends = refl; some = λ e. cc; called = refl }
 

@@ -117,7 +117,14 @@ full_plan = record {
 
 -- its pipeline text
 abbrev pub full_pipeline : List ℕ
-full_pipeline = codes "source.format=csv\nsource.columns=a%3Atext%2Ci%3Aint\nsource.skip.header=true\nconverter.classes=upper%20a%3B%20copy%20i%20n\nfork.operator.class=each\nfork.branches=2\nfork.test.0=null%20i\nconverter.classes.0=keep%20a\nqualitychecker.row.policies.0=eq%20a%20x%3B%20null%20a%3B%20not%20null%20a\nqualitychecker.row.policy.types.0=OPTIONAL%2CFAIL%2CERR_FILE\nwriter.format.0=lines\nwriter.placer.0=plain\nfork.test.1=not%20null%20n\nconverter.classes.1=\nqualitychecker.row.policies.1=null%20n\nqualitychecker.row.policy.types.1=FAIL\nwriter.format.1=json\nwriter.placer.1=day%20n\n"
+full_pipeline = codes "source.format=csv\nsource.columns=a%3Atext%2Ci%3Aint\nsource.skip.header=true\n"
+    ++ codes "converter.classes=upper%20a%3B%20copy%20i%20n\nfork.operator.class=each\nfork.branches=2\n"
+    ++ codes "fork.test.0=null%20i\nconverter.classes.0=keep%20a\n"
+    ++ codes "qualitychecker.row.policies.0=eq%20a%20x%3B%20null%20a%3B%20not%20null%20a\n"
+    ++ codes "qualitychecker.row.policy.types.0=OPTIONAL%2CFAIL%2CERR_FILE\nwriter.format.0=lines\n"
+    ++ codes "writer.placer.0=plain\nfork.test.1=not%20null%20n\nconverter.classes.1=\n"
+    ++ codes "qualitychecker.row.policies.1=null%20n\nqualitychecker.row.policy.types.1=FAIL\nwriter.format.1=json\n"
+    ++ codes "writer.placer.1=day%20n\n"
 
 -- its job
 abbrev pub FullFile : Type 0
@@ -162,7 +169,7 @@ MissingKeys = AllRead fault_in (
     )
     ∷ [])
 
--- present and empty isn't absent
+-- present and empty isn't absent (a text of a table is one literal, whatever its length)
 abbrev pub EmptyValues : Type 0
 EmptyValues = AllRead fault_in (
     ("source.format=", Some (bad_value (codes "source.format")))

@@ -133,7 +133,10 @@ RefusedFiles = AllRead fault_in (
     ∷ ("source.format=lines\nwriter.format=${x}\n", Some (interpolation (codes "writer.format")))
     ∷ ("source.format=lines\nwriter.format=lines\ntask.slots=0\n", Some (bad_value (codes "task.slots")))
     ∷ ("source.class=jdbc\nsource.format=lines\nwriter.format=lines\n", Some (bad_value (codes "source.class")))
-    ∷ ("source.format=lines\nsource.format = csv\nsource.columns=id:int\nsource.skip.header=true\nwriter.format=lines\n", Some (bad_kind (codes "writer.format") (codes "id")))
+    ∷ (
+      "source.format=lines\nsource.format = csv\nsource.columns=id:int\nsource.skip.header=true\nwriter.format=lines\n",
+      Some (bad_kind (codes "writer.format") (codes "id")),
+    )
     ∷ (
       "source.format=csv\nsource.columns=ts:int,m:text\nwriter.format=csv\nwriter.placer=day m\n",
       Some (bad_kind (codes "writer.placer") (codes "m")),
@@ -162,7 +165,10 @@ RefusedFiles = AllRead fault_in (
       "source.format=csv\nsource.columns=i:int,t:text\nwriter.format=csv\nconverter.classes=keep t zz t\n",
       Some (no_column (codes "converter.classes") (codes "zz")),
     )
-    ∷ ("source.format=csv\nsource.columns=i:int,t:text\nwriter.format=csv\nconverter.classes=explode t %3B;where like t a%2A\n", None)
+    ∷ (
+      "source.format=csv\nsource.columns=i:int,t:text\nwriter.format=csv\nconverter.classes=explode t %3B;where like t a%2A\n",
+      None,
+    )
     ∷ [])
 
 -- a malformed escape, and the line that it stands in
@@ -173,7 +179,8 @@ MalformedFile = job_in_file (codes "j") (codes "source.format=lines\nx=\\u00zz\n
 
 -- a header is skipped, and the last of equal keys counts
 abbrev pub HeaderFile : Type 0
-HeaderFile = plan_in (codes "source.format=lines\nsource.format = csv\nsource.columns=id:int\nsource.skip.header=true\nwriter.format=csv\n")
+HeaderFile = plan_in (codes "source.format=lines\nsource.format = csv\nsource.columns=id:int\n"
+    ++ codes "source.skip.header=true\nwriter.format=csv\n")
     ≡ Some (record plain_plan {
       format = format.Csv;
       columns = column "id" kind.Int ∷ [];
@@ -183,7 +190,13 @@ HeaderFile = plan_in (codes "source.format=lines\nsource.format = csv\nsource.co
 
 -- the clicks of a web tier
 abbrev web_tier : List ℕ
-web_tier = codes "# Clicks of the web tier\njob.name=clicks\nsource.class=files\nsource.format=json\nsource.columns=ip:text, path:text, \\\n    status:int\n! two branches\nfork.operator.class = first\nfork.branches : 2\nfork.test.0=ge status 400\nfork.test.1=not null status\nconverter.classes.0=keep status path\nwriter.format.0=csv\nwriter.format.1=json\nqualitychecker.row.policies.0=lt status 500\nqualitychecker.row.policy.types.0=OPTIONAL\nqualitychecker.task.policies=range records 1 1000\nqualitychecker.task.policy.types=FAIL\njob.commit.policy=successful\ndata.publisher.final.dir=${env:OUT}\n"
+web_tier = codes "# Clicks of the web tier\njob.name=clicks\nsource.class=files\nsource.format=json\n"
+    ++ codes "source.columns=ip:text, path:text, \\\n    status:int\n! two branches\nfork.operator.class = first\n"
+    ++ codes "fork.branches : 2\nfork.test.0=ge status 400\nfork.test.1=not null status\n"
+    ++ codes "converter.classes.0=keep status path\nwriter.format.0=csv\nwriter.format.1=json\n"
+    ++ codes "qualitychecker.row.policies.0=lt status 500\nqualitychecker.row.policy.types.0=OPTIONAL\n"
+    ++ codes "qualitychecker.task.policies=range records 1 1000\nqualitychecker.task.policy.types=FAIL\n"
+    ++ codes "job.commit.policy=successful\ndata.publisher.final.dir=${env:OUT}\n"
 
 abbrev pub WebTier : Type 0
 WebTier = job_in_file (codes "clicks") web_tier ≡ Ok (Ok (record {
@@ -217,7 +230,13 @@ WebTier = job_in_file (codes "clicks") web_tier ≡ Ok (Ok (record {
   max_retries = 5;
   policy = Successful;
   scope = scope.Job;
-  pipeline = codes "source.format=json\nsource.columns=ip%3Atext%2C%20path%3Atext%2C%20status%3Aint\nsource.skip.header=false\nconverter.classes=\nfork.operator.class=first\nfork.branches=2\nfork.test.0=ge%20status%20400\nconverter.classes.0=keep%20status%20path\nqualitychecker.row.policies.0=lt%20status%20500\nqualitychecker.row.policy.types.0=OPTIONAL\nwriter.format.0=csv\nwriter.placer.0=plain\nfork.test.1=not%20null%20status\nconverter.classes.1=\nqualitychecker.row.policies.1=\nqualitychecker.row.policy.types.1=\nwriter.format.1=json\nwriter.placer.1=plain\n";
+  pipeline = codes "source.format=json\nsource.columns=ip%3Atext%2C%20path%3Atext%2C%20status%3Aint\n"
+      ++ codes "source.skip.header=false\nconverter.classes=\nfork.operator.class=first\nfork.branches=2\n"
+      ++ codes "fork.test.0=ge%20status%20400\nconverter.classes.0=keep%20status%20path\n"
+      ++ codes "qualitychecker.row.policies.0=lt%20status%20500\nqualitychecker.row.policy.types.0=OPTIONAL\n"
+      ++ codes "writer.format.0=csv\nwriter.placer.0=plain\nfork.test.1=not%20null%20status\nconverter.classes.1=\n"
+      ++ codes "qualitychecker.row.policies.1=\nqualitychecker.row.policy.types.1=\nwriter.format.1=json\n"
+      ++ codes "writer.placer.1=plain\n";
 }))
 
 -- its one key that isn't known

@@ -27,7 +27,8 @@ use Rattle.gob_jobs.proofs.PlanTables.{plain_text_are}
 use Rattle.gob_meaning.specs.Plans.{without_rules}
 
 pub worked : WorkedExamples
-unfolding digits is_utf8 chars lib.Utf8.encode offset padded_digits escape_of lines_from bytes_from test_holds unit_fold sent_to
+unfolding digits is_utf8 chars lib.Utf8.encode offset padded_digits escape_of lines_from bytes_from test_holds
+    unit_fold sent_to
     counts_of stop_of picks place_of line_rows record_of made_in_branch line_made target_name ruling warnings_of
     verdict_of sum_of units_of_parts next_state state_spelling delta_spelling change_of groups_of own_pulls turns_of
     verdicts_of

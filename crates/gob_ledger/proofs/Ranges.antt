@@ -129,7 +129,8 @@ pub times-insert : (at : ℕ) (d : Done) (es : List Done) → times at (spans (i
     at (spans es)
 times-insert at d [] = refl
 times-insert at d (e ∷ es) = elim (nat_lt d.span.lo e.span.lo) as
-    (λ v. times at (spans (cond v (d ∷ e ∷ es) (e ∷ insert_done d es))) ≡ one_in at d.span + times at (spans (e ∷ es))) [
+    (λ v. times at (spans (cond v (d ∷ e ∷ es) (e ∷ insert_done d es)))
+    ≡ one_in at d.span + times at (spans (e ∷ es))) [
       | true ↦ refl
       | false ↦ omega (arith, times-insert at d es)
     ]

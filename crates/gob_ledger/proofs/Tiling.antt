@@ -238,10 +238,11 @@ all_finished p (j ∷ js) s tiled below apart owed =
 all_filter : (p : Judged → Bool) (P : WorkUnit → Type 0) (js : List Judged) → AllByRecursion P (units_in js)
     → AllByRecursion P (units_in (filter p js))
 all_filter p P [] all = tt
-all_filter p P (j ∷ js) all = elim (p j) as (λ b. AllByRecursion P (units_in (cond b (j ∷ filter p js) (filter p js)))) [
-  | true ↦ (all.0, all_filter p P js all.1)
-  | false ↦ all_filter p P js all.1
-]
+all_filter p P (j ∷ js) all = elim (p j) as
+    (λ b. AllByRecursion P (units_in (cond b (j ∷ filter p js) (filter p js)))) [
+      | true ↦ (all.0, all_filter p P js all.1)
+      | false ↦ all_filter p P js all.1
+    ]
 
 pub distinct_filter : (p : Judged → Bool) (js : List Judged) → IsDistinct same_unit (units_in js)
     → IsDistinct same_unit (units_in (filter p js))

@@ -162,7 +162,8 @@ unfolding after_calls do_steps stopped_files after_create after_append after_syn
 closes = closes_is job steps (stopped_files 6) (stopped_files 10) can_commit opens
 
 later : (j : ℕ) → SettlesAs job committed_files (after_calls (take j (drop 10 calls)) (stopped_files 10))
-unfolding after_calls stopped_files committed_files do_steps after_create after_append after_sync after_rename after_remove
+unfolding after_calls stopped_files committed_files do_steps after_create after_append after_sync after_rename
+    after_remove
 later zero = (steps_go job steps (stopped_files 6) (stopped_files 10) 0 can_commit opens).images
 later (suc zero) = (steps_go job steps (stopped_files 6) (stopped_files 10) 1 can_commit opens).images
 later (suc (suc zero)) = (steps_go job steps (stopped_files 6) (stopped_files 10) 2 can_commit opens).images
@@ -200,7 +201,8 @@ others_stay name apart outside =
     ∙ (steps_still steps (stopped_files 6) name off ∙ stopped_below 6 (omega arith) name outside)
 
 is_committed : IsCommitted committed_files
-unfolding committed_files without_staging do_steps stopped_files after_calls after_create after_append after_sync after_rename
+unfolding committed_files without_staging do_steps stopped_files after_calls after_create after_append after_sync
+    after_rename
     after_remove
 is_committed = record { published = refl; state = refl; gone = refl; others = others_stay }
 

@@ -16,7 +16,8 @@ steps = move (codes "j1/stage/0-0/out/a.txt") (codes "j1/out/a.txt") ∷ move (c
     ∷ remove (codes "j1/delta/1") ∷ []
 
 abbrev pub one_move_text : List ℕ
-one_move_text = codes "gobblin-sequence 1\nmove j1/stage/0-0/out/a.txt j1/out/a.txt\nmove j1/stage/state j1/state\nremove j1/delta/1\nend 3\n"
+one_move_text = codes "gobblin-sequence 1\nmove j1/stage/0-0/out/a.txt j1/out/a.txt\nmove j1/stage/state j1/state\n"
+    ++ codes "remove j1/delta/1\nend 3\n"
 
 -- what stood before the commit
 abbrev pub entry : Files

@@ -10,18 +10,27 @@ use std::test::Fail;
 /// States, and their texts.
 const STATES: [(&[u8], &[u8]); 3] = [
     (
-        b"gobblin-state 2\nrun 1\npipelines 1\npipeline 1\nwriter.format.0=lines\ntotals 2 0 2 0\nbranch 0 2 0 0\npartition a.log 6\ndone 0 2 0\nopen 2 4\ndone 4 6 0\nend\n",
-        b"job j1\nmark a.log 2 6\nopen a.log 2 4\npipeline 0 ranges 2\ntotal records 2 bad 0 rows 2 unrouted 0\ntotal branch 0 written 2 errors 0 optional 0\nruns 1\nstatus 0\n",
+        b"gobblin-state 2\nrun 1\npipelines 1\npipeline 1\nwriter.format.0=lines\ntotals 2 0 2 0\nbranch 0 2 0 0\n\
+            partition a.log 6\ndone 0 2 0\nopen 2 4\ndone 4 6 0\nend\n",
+        b"job j1\nmark a.log 2 6\nopen a.log 2 4\npipeline 0 ranges 2\ntotal records 2 bad 0 rows 2 unrouted 0\n\
+            total branch 0 written 2 errors 0 optional 0\nruns 1\nstatus 0\n",
     ),
     // Two pipelines, each of which made one range.
     (
-        b"gobblin-state 2\nrun 2\npipelines 2\npipeline 1\nwriter.format.0=lines\npipeline 1\nwriter.format.0=json\ntotals 3 0 3 0\nbranch 0 3 0 0\npartition a.log 6\ndone 0 4 0\ndone 4 6 1\nend\n",
-        b"job j1\nmark a.log 6 6\npipeline 0 ranges 1\npipeline 1 ranges 1\ntotal records 3 bad 0 rows 3 unrouted 0\ntotal branch 0 written 3 errors 0 optional 0\nruns 2\nstatus 0\n",
+        b"gobblin-state 2\nrun 2\npipelines 2\npipeline 1\nwriter.format.0=lines\npipeline 1\nwriter.format.0=json\n\
+            totals 3 0 3 0\nbranch 0 3 0 0\npartition a.log 6\ndone 0 4 0\ndone 4 6 1\nend\n",
+        b"job j1\nmark a.log 6 6\npipeline 0 ranges 1\npipeline 1 ranges 1\ntotal records 3 bad 0 rows 3 unrouted 0\n\
+            total branch 0 written 3 errors 0 optional 0\nruns 2\nstatus 0\n",
     ),
     // A pipeline that made none, and ranges of two partitions by the others.
     (
-        b"gobblin-state 2\nrun 9\npipelines 3\npipeline 0\npipeline 1\nx=1\npipeline 1\nx=2\ntotals 9 1 8 2\nbranch 0 3 2 1\nbranch 1 0 0 0\npartition a%2Fb 9\nopen 0 2\nopen 2 4\ndone 4 9 2\npartition c 5\ndone 0 1 2\ndone 1 2 0\ndone 2 5 2\nend\n",
-        b"job j1\nmark a%2Fb 0 9\nopen a%2Fb 0 2\nopen a%2Fb 2 4\nmark c 5 5\npipeline 0 ranges 1\npipeline 1 ranges 0\npipeline 2 ranges 3\ntotal records 9 bad 1 rows 8 unrouted 2\ntotal branch 0 written 3 errors 2 optional 1\ntotal branch 1 written 0 errors 0 optional 0\nruns 9\nstatus 0\n",
+        b"gobblin-state 2\nrun 9\npipelines 3\npipeline 0\npipeline 1\nx=1\npipeline 1\nx=2\ntotals 9 1 8 2\n\
+            branch 0 3 2 1\nbranch 1 0 0 0\npartition a%2Fb 9\nopen 0 2\nopen 2 4\ndone 4 9 2\npartition c 5\n\
+            done 0 1 2\ndone 1 2 0\ndone 2 5 2\nend\n",
+        b"job j1\nmark a%2Fb 0 9\nopen a%2Fb 0 2\nopen a%2Fb 2 4\nmark c 5 5\npipeline 0 ranges 1\n\
+            pipeline 1 ranges 0\npipeline 2 ranges 3\ntotal records 9 bad 1 rows 8 unrouted 2\n\
+            total branch 0 written 3 errors 2 optional 1\ntotal branch 1 written 0 errors 0 optional 0\nruns 9\n\
+            status 0\n",
     ),
 ];
 
@@ -65,18 +74,23 @@ fn recoveries_are_told(rt: HostRuntime) -> Result<(), Fail> {
 
 /// Errors go to csv with two of the columns, all else to json.
 const TWO_OUTPUTS: &[u8] =
-    b"source.format=json\nsource.columns=ip:text, path:text, status:int\nfork.operator.class=first\nfork.branches=2\nfork.test.0=ge status 400\nconverter.classes.0=keep status path\nwriter.format.0=csv\nfork.test.1=not null status\nwriter.format.1=json\n";
+    b"source.format=json\nsource.columns=ip:text, path:text, status:int\nfork.operator.class=first\nfork.branches=2\n\
+        fork.test.0=ge status 400\nconverter.classes.0=keep status path\nwriter.format.0=csv\n\
+        fork.test.1=not null status\nwriter.format.1=json\n";
 
 /// Steps before the fork and behind it.
 const STEPS: &[u8] =
-    b"source.format=csv\nsource.columns=a:text, b:text\nconverter.classes=cast b bool; rename a c\nfork.operator.class=all\nfork.branches=2\nconverter.classes.0=drop c\nwriter.format.0=json\nwriter.format.1=csv\n";
+    b"source.format=csv\nsource.columns=a:text, b:text\nconverter.classes=cast b bool; rename a c\n\
+        fork.operator.class=all\nfork.branches=2\nconverter.classes.0=drop c\nwriter.format.0=json\n\
+        writer.format.1=csv\n";
 
 /// Job files, keys that aren't known, and what is told.
 const CHECKS: [(&[u8], &[&str], &[u8]); 3] = [
     (
         TWO_OUTPUTS,
         &["data.publisher.final.dir", "a b", ""],
-        b"job clicks ok\nbranch 0 csv status:int,path:text\nbranch 1 json ip:text,path:text,status:int\nunknown data.publisher.final.dir\nunknown a%20b\nunknown \nstatus 0\n",
+        b"job clicks ok\nbranch 0 csv status:int,path:text\nbranch 1 json ip:text,path:text,status:int\n\
+            unknown data.publisher.final.dir\nunknown a%20b\nunknown \nstatus 0\n",
     ),
     (
         STEPS,

@@ -20,7 +20,9 @@ fn check_plan(rt: &impl Abort, alloc: Global, pipeline: &str, wanted: &[u8]) -> 
 
 /// Errors go to csv with one of the columns, all else to json.
 const TWO_OUTPUTS: &[u8] =
-    b"source.format=json\nsource.columns=ip:text, status:int\nfork.operator.class=first\nfork.branches=2\nfork.test.0=ge status 400\nconverter.classes.0=drop ip\nwriter.format=csv\nfork.test.1=not null status\nwriter.format.1=json\n";
+    b"source.format=json\nsource.columns=ip:text, status:int\nfork.operator.class=first\nfork.branches=2\n\
+        fork.test.0=ge status 400\nconverter.classes.0=drop ip\nwriter.format=csv\nfork.test.1=not null status\n\
+        writer.format.1=json\n";
 
 #[test]
 fn a_jobs_pipeline_tells_its_plan(rt: HostRuntime) -> Result<(), Fail> {

@@ -47,16 +47,20 @@ const NOTHING_YET: &[u8] =
     b"gobblin-state 2\nrun 0\npipelines 0\ntotals 0 0 0 0\nbranch 0 0 0 0\nend\n";
 
 const TWO_LINES: &[u8] =
-    b"gobblin-state 2\nrun 1\npipelines 1\npipeline 1\nwriter.format.0=lines\ntotals 2 0 2 0\nbranch 0 2 0 0\npartition a.log 4\ndone 0 4 0\nend\n";
+    b"gobblin-state 2\nrun 1\npipelines 1\npipeline 1\nwriter.format.0=lines\ntotals 2 0 2 0\nbranch 0 2 0 0\n\
+        partition a.log 4\ndone 0 4 0\nend\n";
 
 const AFTER_A_KILL: &[u8] =
-    b"gobblin-state 2\nrun 1\npipelines 1\npipeline 1\nwriter.format.0=lines\ntotals 2 0 2 0\nbranch 0 2 0 0\npartition a.log 6\ndone 0 2 0\nopen 2 4\ndone 4 6 0\nend\n";
+    b"gobblin-state 2\nrun 1\npipelines 1\npipeline 1\nwriter.format.0=lines\ntotals 2 0 2 0\nbranch 0 2 0 0\n\
+        partition a.log 6\ndone 0 2 0\nopen 2 4\ndone 4 6 0\nend\n";
 
 const TWO_BRANCHES: &[u8] =
-    b"gobblin-state 2\nrun 7\npipelines 1\npipeline 0\ntotals 3 0 3 0\nbranch 0 3 0 0\nbranch 1 3 0 0\npartition a%2Fx 6\nopen 0 6\npartition b 3\ndone 0 3 0\nend\n";
+    b"gobblin-state 2\nrun 7\npipelines 1\npipeline 0\ntotals 3 0 3 0\nbranch 0 3 0 0\nbranch 1 3 0 0\n\
+        partition a%2Fx 6\nopen 0 6\npartition b 3\ndone 0 3 0\nend\n";
 
 const LONG_NAME: &str =
-    "aaaaaaaaaaaaaaaaaaaaaaaaaaaaaaaaaaaaaaaaaaaaaaaaaaaaaaaaaaaaaaaaaaaaaaaaaaaaaaaaaaaaaaaaaaaaaaaaaaaaaaaaaaaaaaaaaaaaaaaaaaaaaaaaaaaaaaaaaaaaaaaaaaaaaaaaaaaaaaaaaaaaaaaaaaaaaaaaa";
+    "aaaaaaaaaaaaaaaaaaaaaaaaaaaaaaaaaaaaaaaaaaaaaaaaaaaaaaaaaaaaaaaaaaaaaaaaaaaaaaaaaaaaaaaaaaaaaaaaaaaaaaaaaaaaaaaa\
+        aaaaaaaaaaaaaaaaaaaaaaaaaaaaaaaaaaaaaaaaaaaaaaaaaaaaaaaaaaaaaaaaa";
 
 const RUNS: [Told; 6] = [
     // Two lines that are committed.
@@ -66,7 +70,9 @@ const RUNS: [Told; 6] = [
         too_long: &[],
         units: &[("a.log", 0, 4, true, Good(2, 1, &[]))],
         state: TWO_LINES,
-        text: b"job j1 policy full\nunit a.log 0 4 committed records 2 bad 0 rows 2 unrouted 0\nbranch 0 written 2 errors 0 optional 0\nmark a.log 4 4\ntotal records 2 bad 0 rows 2 unrouted 0\ntotal branch 0 written 2 errors 0 optional 0\nruns 1\nstatus 0\n",
+        text: b"job j1 policy full\nunit a.log 0 4 committed records 2 bad 0 rows 2 unrouted 0\n\
+            branch 0 written 2 errors 0 optional 0\nmark a.log 4 4\ntotal records 2 bad 0 rows 2 unrouted 0\n\
+            total branch 0 written 2 errors 0 optional 0\nruns 1\nstatus 0\n",
         status: 0,
     },
     // Nothing was to do.
@@ -76,7 +82,8 @@ const RUNS: [Told; 6] = [
         too_long: &[],
         units: &[],
         state: TWO_LINES,
-        text: b"job j1 policy full\nmark a.log 4 4\ntotal records 2 bad 0 rows 2 unrouted 0\ntotal branch 0 written 2 errors 0 optional 0\nruns 1\nstatus 0\n",
+        text: b"job j1 policy full\nmark a.log 4 4\ntotal records 2 bad 0 rows 2 unrouted 0\n\
+            total branch 0 written 2 errors 0 optional 0\nruns 1\nstatus 0\n",
         status: 0,
     },
     // One of three is killed, and the good ones are committed.
@@ -90,7 +97,11 @@ const RUNS: [Told; 6] = [
             ("a.log", 4, 6, true, Good(1, 1, &[])),
         ],
         state: AFTER_A_KILL,
-        text: b"job j12 policy successful\nunit a.log 0 2 committed records 1 bad 0 rows 1 unrouted 0\nbranch 0 written 1 errors 0 optional 0\nunit a.log 2 4 failed kill 0 0 2\nunit a.log 4 6 committed records 1 bad 0 rows 1 unrouted 0\nbranch 0 written 1 errors 0 optional 0\nmark a.log 2 6\ntotal records 2 bad 0 rows 2 unrouted 0\ntotal branch 0 written 2 errors 0 optional 0\nruns 1\nstatus 1\n",
+        text: b"job j12 policy successful\nunit a.log 0 2 committed records 1 bad 0 rows 1 unrouted 0\n\
+            branch 0 written 1 errors 0 optional 0\nunit a.log 2 4 failed kill 0 0 2\n\
+            unit a.log 4 6 committed records 1 bad 0 rows 1 unrouted 0\nbranch 0 written 1 errors 0 optional 0\n\
+            mark a.log 2 6\ntotal records 2 bad 0 rows 2 unrouted 0\ntotal branch 0 written 2 errors 0 optional 0\n\
+            runs 1\nstatus 1\n",
         status: 1,
     },
     // One of three is killed, and none is committed.
@@ -104,7 +115,10 @@ const RUNS: [Told; 6] = [
             ("a.log", 4, 6, false, Good(1, 1, &[])),
         ],
         state: NOTHING_YET,
-        text: b"job j12 policy full\nunit a.log 0 2 held records 1 bad 0 rows 1 unrouted 0\nbranch 0 written 1 errors 0 optional 0\nunit a.log 2 4 failed kill 0 0 2\nunit a.log 4 6 held records 1 bad 0 rows 1 unrouted 0\nbranch 0 written 1 errors 0 optional 0\ntotal records 0 bad 0 rows 0 unrouted 0\ntotal branch 0 written 0 errors 0 optional 0\nruns 0\nstatus 1\n",
+        text: b"job j12 policy full\nunit a.log 0 2 held records 1 bad 0 rows 1 unrouted 0\n\
+            branch 0 written 1 errors 0 optional 0\nunit a.log 2 4 failed kill 0 0 2\n\
+            unit a.log 4 6 held records 1 bad 0 rows 1 unrouted 0\nbranch 0 written 1 errors 0 optional 0\n\
+            total records 0 bad 0 rows 0 unrouted 0\ntotal branch 0 written 0 errors 0 optional 0\nruns 0\nstatus 1\n",
         status: 1,
     },
     // Names that are too long, of which one is escaped.
@@ -114,7 +128,10 @@ const RUNS: [Told; 6] = [
         too_long: &["a b", LONG_NAME],
         units: &[],
         state: NOTHING_YET,
-        text: b"job j1 policy full\ntoo-long a%20b\ntoo-long aaaaaaaaaaaaaaaaaaaaaaaaaaaaaaaaaaaaaaaaaaaaaaaaaaaaaaaaaaaaaaaaaaaaaaaaaaaaaaaaaaaaaaaaaaaaaaaaaaaaaaaaaaaaaaaaaaaaaaaaaaaaaaaaaaaaaaaaaaaaaaaaaaaaaaaaaaaaaaaaaaaaaaaaaaaaaaaaa\ntotal records 0 bad 0 rows 0 unrouted 0\ntotal branch 0 written 0 errors 0 optional 0\nruns 0\nstatus 0\n",
+        text: b"job j1 policy full\ntoo-long a%20b\n\
+            too-long aaaaaaaaaaaaaaaaaaaaaaaaaaaaaaaaaaaaaaaaaaaaaaaaaaaaaaaaaaaaaaaaaaaaaaaaaaaaaaaaaaaaaaaaaaaaaaaaa\
+            aaaaaaaaaaaaaaaaaaaaaaaaaaaaaaaaaaaaaaaaaaaaaaaaaaaaaaaaaaaaaaaaaaaaaaaaaaaaaaaa\n\
+            total records 0 bad 0 rows 0 unrouted 0\ntotal branch 0 written 0 errors 0 optional 0\nruns 0\nstatus 0\n",
         status: 0,
     },
     // Every cause, warnings, two branches and two partitions.
@@ -139,7 +156,13 @@ const RUNS: [Told; 6] = [
             ("b", 0, 3, true, Good(3, 2, &[0, 12])),
         ],
         state: TWO_BRANCHES,
-        text: b"job j1 policy successful\nunit a%2Fx 0 1 failed bad-records 18446744073709551615\nunit a%2Fx 1 2 failed policy 3\nunit a%2Fx 2 3 failed gone\nunit a%2Fx 3 4 failed torn\nunit a%2Fx 4 6 failed fault\nunit b 0 3 committed records 3 bad 0 rows 3 unrouted 0\nbranch 0 written 3 errors 0 optional 0\nbranch 1 written 3 errors 0 optional 0\nwarning 0\nwarning 12\nmark a%2Fx 0 6\nmark b 3 3\ntotal records 3 bad 0 rows 3 unrouted 0\ntotal branch 0 written 3 errors 0 optional 0\ntotal branch 1 written 3 errors 0 optional 0\nruns 7\nstatus 1\n",
+        text: b"job j1 policy successful\nunit a%2Fx 0 1 failed bad-records 18446744073709551615\n\
+            unit a%2Fx 1 2 failed policy 3\nunit a%2Fx 2 3 failed gone\nunit a%2Fx 3 4 failed torn\n\
+            unit a%2Fx 4 6 failed fault\nunit b 0 3 committed records 3 bad 0 rows 3 unrouted 0\n\
+            branch 0 written 3 errors 0 optional 0\nbranch 1 written 3 errors 0 optional 0\nwarning 0\nwarning 12\n\
+            mark a%2Fx 0 6\nmark b 3 3\ntotal records 3 bad 0 rows 3 unrouted 0\n\
+            total branch 0 written 3 errors 0 optional 0\ntotal branch 1 written 3 errors 0 optional 0\nruns 7\n\
+            status 1\n",
         status: 1,
     },
 ];

@@ -82,7 +82,8 @@ fn reads_back(rt: &impl Abort, alloc: Global, before: &State, text: &[u8]) -> Re
 
 /// Half a line was whole in the second run.
 const HALF: &[u8] =
-    b"gobblin-state 2\nrun 1\npipelines 1\npipeline 1\nx=1\ntotals 1 0 1 0\nbranch 0 1 0 0\npartition a.log 2\ndone 0 2 0\nend\n";
+    b"gobblin-state 2\nrun 1\npipelines 1\npipeline 1\nx=1\ntotals 1 0 1 0\nbranch 0 1 0 0\npartition a.log 2\n\
+        done 0 2 0\nend\n";
 
 const WHOLE: &[u8] =
     b"gobblin-delta 2\nrun 2\npipelines 0\ntotals 2 0 2 0\nbranch 0 2 0 0\npartition a.log 5\ndone 2 5 0\nend\n";
@@ -209,7 +210,8 @@ fn a_change_is_as_long_as_what_changed(rt: HostRuntime) -> Result<(), Fail> {
     let text = many_done(rt.alloc(), 199_999)?;
     let before = state_of(rt.alloc(), text.as_slice())?;
     let change =
-        b"gobblin-delta 2\nrun 2\npipelines 0\ntotals 1 0 1 0\nbranch 0 1 0 0\npartition a 200000\ndone 199999 200000 0\nend\n";
+        b"gobblin-delta 2\nrun 2\npipelines 0\ntotals 1 0 1 0\nbranch 0 1 0 0\npartition a 200000\n\
+            done 199999 200000 0\nend\n";
     is_true(&rt, reads_back(&rt, rt.alloc(), &before, change)?);
     Ok(())
 }

@@ -16,7 +16,8 @@ const THIRD: &str = "j1/delta/00000000000000000003";
 const FOURTH: &str = "j1/delta/00000000000000000004";
 
 pub(crate) const BASE: &[u8] =
-    b"gobblin-state 2\nrun 1\npipelines 1\npipeline 1\nwriter.format.0=json\ntotals 1 0 1 0\nbranch 0 1 0 0\npartition a 6\ndone 0 2 0\nopen 2 4\nopen 4 6\nend\n";
+    b"gobblin-state 2\nrun 1\npipelines 1\npipeline 1\nwriter.format.0=json\ntotals 1 0 1 0\nbranch 0 1 0 0\n\
+        partition a 6\ndone 0 2 0\nopen 2 4\nopen 4 6\nend\n";
 
 /// Makes an owed range done, and owes a new one.
 pub(crate) const CHANGE_2: &[u8] =
@@ -24,30 +25,36 @@ pub(crate) const CHANGE_2: &[u8] =
 
 /// Adds a pipeline and a partition.
 pub(crate) const CHANGE_3: &[u8] =
-    b"gobblin-delta 2\nrun 3\npipelines 1\npipeline 1\nx=1\ntotals 4 0 4 0\nbranch 0 4 0 0\nbranch 1 0 0 0\npartition a 9\ndone 2 4 1\npartition b 3\ndone 0 3 1\nend\n";
+    b"gobblin-delta 2\nrun 3\npipelines 1\npipeline 1\nx=1\ntotals 4 0 4 0\nbranch 0 4 0 0\nbranch 1 0 0 0\n\
+        partition a 9\ndone 2 4 1\npartition b 3\ndone 0 3 1\nend\n";
 
 /// Changes the totals alone.
 const CHANGE_4: &[u8] =
     b"gobblin-delta 2\nrun 4\npipelines 0\ntotals 5 0 5 0\nbranch 0 5 0 0\nbranch 1 0 0 0\nend\n";
 
 pub(crate) const AFTER_2: &[u8] =
-    b"gobblin-state 2\nrun 2\npipelines 1\npipeline 1\nwriter.format.0=json\ntotals 2 0 2 0\nbranch 0 2 0 0\npartition a 9\ndone 0 2 0\nopen 2 4\ndone 4 6 0\nopen 6 9\nend\n";
+    b"gobblin-state 2\nrun 2\npipelines 1\npipeline 1\nwriter.format.0=json\ntotals 2 0 2 0\nbranch 0 2 0 0\n\
+        partition a 9\ndone 0 2 0\nopen 2 4\ndone 4 6 0\nopen 6 9\nend\n";
 
 const AFTER_4: &[u8] =
-    b"gobblin-state 2\nrun 4\npipelines 2\npipeline 1\nwriter.format.0=json\npipeline 1\nx=1\ntotals 5 0 5 0\nbranch 0 5 0 0\nbranch 1 0 0 0\npartition a 9\ndone 0 2 0\ndone 2 4 1\ndone 4 6 0\nopen 6 9\npartition b 3\ndone 0 3 1\nend\n";
+    b"gobblin-state 2\nrun 4\npipelines 2\npipeline 1\nwriter.format.0=json\npipeline 1\nx=1\ntotals 5 0 5 0\n\
+        branch 0 5 0 0\nbranch 1 0 0 0\npartition a 9\ndone 0 2 0\ndone 2 4 1\ndone 4 6 0\nopen 6 9\npartition b 3\n\
+        done 0 3 1\nend\n";
 
 /// The last line is spoilt.
 const SPOILT: &[u8] = b"gobblin-state 2\nrun 1\npipelines 0\ntotals 2 0 2 0\nbranch 0 2 0 0\nenx\n";
 
 /// The same in the first version.
 pub(crate) const OLD_BASE: &[u8] =
-    b"gobblin-state 1\nrun 1\npipeline 1\nwriter.format.0=json\ntotals 1 0 1 0\nbranch 0 1 0 0\npartition a 4\ndone 0 2\nopen 2 4\nend\n";
+    b"gobblin-state 1\nrun 1\npipeline 1\nwriter.format.0=json\ntotals 1 0 1 0\nbranch 0 1 0 0\npartition a 4\n\
+        done 0 2\nopen 2 4\nend\n";
 
 pub(crate) const OLD_CHANGE: &[u8] =
     b"gobblin-delta 1\nrun 2\ntotals 2 0 2 0\nbranch 0 2 0 0\npartition a 4\ndone 2 4\nend\n";
 
 const OLD_AFTER: &[u8] =
-    b"gobblin-state 2\nrun 2\npipelines 1\npipeline 1\nwriter.format.0=json\ntotals 2 0 2 0\nbranch 0 2 0 0\npartition a 4\ndone 0 2 0\ndone 2 4 0\nend\n";
+    b"gobblin-state 2\nrun 2\npipelines 1\npipeline 1\nwriter.format.0=json\ntotals 2 0 2 0\nbranch 0 2 0 0\n\
+        partition a 4\ndone 0 2 0\ndone 2 4 0\nend\n";
 
 /// What would be the next change if it were of the state's version.
 const NEW_CHANGE: &[u8] =
@@ -70,12 +77,15 @@ const NO_CHANGES: [&[u8]; 21] = [
     b"gobblin-delta 2\nrun 2\npipelines 0\ntotals 2 0 2 0\nbranch 0 2 0 0\npartition a 6\nopen 2 4\nend\n",
     b"gobblin-delta 2\nrun 2\npipelines 0\ntotals 2 0 2 0\nbranch 0 2 0 0\npartition a 6\ndone 2 6 0\nend\n",
     b"gobblin-delta 2\nrun 2\npipelines 0\ntotals 2 0 2 0\nbranch 0 2 0 0\npartition a 6\ndone 2 4 1\nend\n",
-    b"gobblin-delta 2\nrun 2\npipelines 0\ntotals 2 0 2 0\nbranch 0 2 0 0\npartition a 6\ndone 4 6 0\ndone 2 4 0\nend\n",
+    b"gobblin-delta 2\nrun 2\npipelines 0\ntotals 2 0 2 0\nbranch 0 2 0 0\npartition a 6\ndone 4 6 0\ndone 2 4 0\n\
+        end\n",
     b"gobblin-delta 2\nrun 2\npipelines 0\ntotals 2 0 2 0\nbranch 0 2 0 0\npartition a 7\ndone 2 4 0\nend\n",
     b"gobblin-delta 2\nrun 2\npipelines 0\ntotals 2 0 2 0\nbranch 0 2 0 0\npartition a 9\nopen 7 9\nend\n",
     b"gobblin-delta 2\nrun 2\npipelines 0\ntotals 2 0 2 0\nbranch 0 2 0 0\npartition a 6\nopen 6 6\nend\n",
-    b"gobblin-delta 2\nrun 2\npipelines 0\ntotals 2 0 2 0\nbranch 0 2 0 0\npartition b 1\nopen 0 1\npartition a 7\nopen 6 7\nend\n",
-    b"gobblin-delta 2\nrun 2\npipelines 0\ntotals 2 0 2 0\nbranch 0 2 0 0\npartition a 7\nopen 6 7\npartition a 8\nopen 7 8\nend\n",
+    b"gobblin-delta 2\nrun 2\npipelines 0\ntotals 2 0 2 0\nbranch 0 2 0 0\npartition b 1\nopen 0 1\npartition a 7\n\
+        open 6 7\nend\n",
+    b"gobblin-delta 2\nrun 2\npipelines 0\ntotals 2 0 2 0\nbranch 0 2 0 0\npartition a 7\nopen 6 7\npartition a 8\n\
+        open 7 8\nend\n",
     b"gobblin-delta 2\nrun 2\npipelines 0\ntotals 2 0 2 0\nbranch 0 2 0 0\npartition b 0\nend\n",
     b"gobblin-delta 2\nrun 2\npipelines 0\ntotals 2 0 2 0\nbranch 0 2 0 0\npartition a 6\ndone 2 4\nend\n",
 ];

@@ -7,10 +7,12 @@ use std::test::Fail;
 
 /// A state of the first version, and the same in the second.
 const FIRST: &[u8] =
-    b"gobblin-state 1\nrun 3\npipeline 2\nwriter.format.0=json\nx=%0A\ntotals 5 0 5 1\nbranch 0 2 1 0\nbranch 1 2 0 0\npartition a%2Fb.log 9\ndone 0 4\nopen 4 6\ndone 6 9\npartition b 1\nopen 0 1\nend\n";
+    b"gobblin-state 1\nrun 3\npipeline 2\nwriter.format.0=json\nx=%0A\ntotals 5 0 5 1\nbranch 0 2 1 0\n\
+        branch 1 2 0 0\npartition a%2Fb.log 9\ndone 0 4\nopen 4 6\ndone 6 9\npartition b 1\nopen 0 1\nend\n";
 
 const SECOND: &[u8] =
-    b"gobblin-state 2\nrun 3\npipelines 1\npipeline 2\nwriter.format.0=json\nx=%0A\ntotals 5 0 5 1\nbranch 0 2 1 0\nbranch 1 2 0 0\npartition a%2Fb.log 9\ndone 0 4 0\nopen 4 6\ndone 6 9 0\npartition b 1\nopen 0 1\nend\n";
+    b"gobblin-state 2\nrun 3\npipelines 1\npipeline 2\nwriter.format.0=json\nx=%0A\ntotals 5 0 5 1\nbranch 0 2 1 0\n\
+        branch 1 2 0 0\npartition a%2Fb.log 9\ndone 0 4 0\nopen 4 6\ndone 6 9 0\npartition b 1\nopen 0 1\nend\n";
 
 /// A state without a pipeline or a partition.
 const EMPTY: &[u8] = b"gobblin-state 2\nrun 0\npipelines 0\ntotals 0 0 0 0\nbranch 0 0 0 0\nend\n";
@@ -35,8 +37,10 @@ const MALFORMED: [&[u8]; 22] = [
     b"gobblin-state 2\nrun 0\npipelines 0\ntotals 0 0 0 0\nbranch 0 0 0 0\npartition a 2\nopen 0 1\nend\n",
     b"gobblin-state 2\nrun 0\npipelines 0\ntotals 0 0 0 0\nbranch 0 0 0 0\npartition a 2\nopen 1 2\nend\n",
     b"gobblin-state 2\nrun 0\npipelines 0\ntotals 0 0 0 0\nbranch 0 0 0 0\npartition a 1\nopen 0 1\nopen 1 1\nend\n",
-    b"gobblin-state 2\nrun 0\npipelines 0\ntotals 0 0 0 0\nbranch 0 0 0 0\npartition b 1\nopen 0 1\npartition a 1\nopen 0 1\nend\n",
-    b"gobblin-state 2\nrun 0\npipelines 0\ntotals 0 0 0 0\nbranch 0 0 0 0\npartition a 1\nopen 0 1\npartition a 1\nopen 0 1\nend\n",
+    b"gobblin-state 2\nrun 0\npipelines 0\ntotals 0 0 0 0\nbranch 0 0 0 0\npartition b 1\nopen 0 1\npartition a 1\n\
+        open 0 1\nend\n",
+    b"gobblin-state 2\nrun 0\npipelines 0\ntotals 0 0 0 0\nbranch 0 0 0 0\npartition a 1\nopen 0 1\npartition a 1\n\
+        open 0 1\nend\n",
     b"gobblin-state 2\nrun 0\npipelines 0\ntotals 0 0 0 0\nbranch 0 0 0 0\npartition %61 1\nopen 0 1\nend\n",
     b"gobblin-state 2\nrun 0\npipelines 0\ntotals 0 0 0 0\nbranch 0 0 0 0\ndoneend\n",
 ];

@@ -102,33 +102,61 @@ after_second_dataset = record plain_state { totals = lines_written 1; parts = (c
 pub record WorkedTexts : Type 0 where
   pub plain : Makes job two_lines [] nothing_yet (fresh (codes "a.log") 0 4 ∷ []) (good (lines_written 2) [] ∷ [])
       plain_state
-      (codes "job j1 policy full\nunit a.log 0 4 committed records 2 bad 0 rows 2 unrouted 0\nbranch 0 written 2 errors 0 optional 0\nmark a.log 4 4\ntotal records 2 bad 0 rows 2 unrouted 0\ntotal branch 0 written 2 errors 0 optional 0\nruns 1\nstatus 0\n")
+      (codes "job j1 policy full\nunit a.log 0 4 committed records 2 bad 0 rows 2 unrouted 0\n"
+      ++ codes "branch 0 written 2 errors 0 optional 0\nmark a.log 4 4\ntotal records 2 bad 0 rows 2 unrouted 0\n"
+      ++ codes "total branch 0 written 2 errors 0 optional 0\nruns 1\nstatus 0\n")
   pub nothing_held : Makes job [] [] nothing_yet [] [] nothing_yet
-      (codes "job j1 policy full\ntotal records 0 bad 0 rows 0 unrouted 0\ntotal branch 0 written 0 errors 0 optional 0\nruns 0\nstatus 0\n")
+      (codes "job j1 policy full\ntotal records 0 bad 0 rows 0 unrouted 0\n"
+      ++ codes "total branch 0 written 0 errors 0 optional 0\nruns 0\nstatus 0\n")
   pub twice : Makes job two_lines [] plain_state [] [] plain_state
-      (codes "job j1 policy full\nmark a.log 4 4\ntotal records 2 bad 0 rows 2 unrouted 0\ntotal branch 0 written 2 errors 0 optional 0\nruns 1\nstatus 0\n")
+      (codes "job j1 policy full\nmark a.log 4 4\ntotal records 2 bad 0 rows 2 unrouted 0\n"
+      ++ codes "total branch 0 written 2 errors 0 optional 0\nruns 1\nstatus 0\n")
   pub one_fails : Makes killing_job with_a_kill [] nothing_yet line_units one_killed after_a_kill
-      (codes "job j12 policy successful\nunit a.log 0 2 committed records 1 bad 0 rows 1 unrouted 0\nbranch 0 written 1 errors 0 optional 0\nunit a.log 2 4 failed kill 0 0 2\nunit a.log 4 6 committed records 1 bad 0 rows 1 unrouted 0\nbranch 0 written 1 errors 0 optional 0\nmark a.log 2 6\ntotal records 2 bad 0 rows 2 unrouted 0\ntotal branch 0 written 2 errors 0 optional 0\nruns 1\nstatus 1\n")
+      (codes "job j12 policy successful\nunit a.log 0 2 committed records 1 bad 0 rows 1 unrouted 0\n"
+      ++ codes "branch 0 written 1 errors 0 optional 0\nunit a.log 2 4 failed kill 0 0 2\n"
+      ++ codes "unit a.log 4 6 committed records 1 bad 0 rows 1 unrouted 0\n"
+      ++ codes "branch 0 written 1 errors 0 optional 0\nmark a.log 2 6\ntotal records 2 bad 0 rows 2 unrouted 0\n"
+      ++ codes "total branch 0 written 2 errors 0 optional 0\nruns 1\nstatus 1\n")
   pub one_holds_all_back : Makes (record killing_job { policy = Full }) with_a_kill [] nothing_yet line_units
       one_killed nothing_yet
-      (codes "job j12 policy full\nunit a.log 0 2 held records 1 bad 0 rows 1 unrouted 0\nbranch 0 written 1 errors 0 optional 0\nunit a.log 2 4 failed kill 0 0 2\nunit a.log 4 6 held records 1 bad 0 rows 1 unrouted 0\nbranch 0 written 1 errors 0 optional 0\ntotal records 0 bad 0 rows 0 unrouted 0\ntotal branch 0 written 0 errors 0 optional 0\nruns 0\nstatus 1\n")
+      (codes "job j12 policy full\nunit a.log 0 2 held records 1 bad 0 rows 1 unrouted 0\n"
+      ++ codes "branch 0 written 1 errors 0 optional 0\nunit a.log 2 4 failed kill 0 0 2\n"
+      ++ codes "unit a.log 4 6 held records 1 bad 0 rows 1 unrouted 0\nbranch 0 written 1 errors 0 optional 0\n"
+      ++ codes "total records 0 bad 0 rows 0 unrouted 0\ntotal branch 0 written 0 errors 0 optional 0\nruns 0\n"
+      ++ codes "status 1\n")
   pub one_is_gone : Makes killing_job [] [] after_a_kill (record killed_unit { listed = false } ∷ []) (failed Gone ∷ [])
       after_a_kill
-      (codes "job j12 policy successful\nunit a.log 2 4 failed gone\nmark a.log 2 6\ntotal records 2 bad 0 rows 2 unrouted 0\ntotal branch 0 written 2 errors 0 optional 0\nruns 1\nstatus 1\n")
+      (codes "job j12 policy successful\nunit a.log 2 4 failed gone\nmark a.log 2 6\n"
+      ++ codes "total records 2 bad 0 rows 2 unrouted 0\ntotal branch 0 written 2 errors 0 optional 0\nruns 1\n"
+      ++ codes "status 1\n")
   pub two_partitions : Makes job one_line_each [] nothing_yet one_each
       (good (lines_written 1) [] ∷ good (lines_written 1) [] ∷ []) after_both
-      (codes "job j1 policy full\nunit a 0 2 committed records 1 bad 0 rows 1 unrouted 0\nbranch 0 written 1 errors 0 optional 0\nunit b 0 2 committed records 1 bad 0 rows 1 unrouted 0\nbranch 0 written 1 errors 0 optional 0\nmark a 2 2\nmark b 2 2\ntotal records 2 bad 0 rows 2 unrouted 0\ntotal branch 0 written 2 errors 0 optional 0\nruns 1\nstatus 0\n")
+      (codes "job j1 policy full\nunit a 0 2 committed records 1 bad 0 rows 1 unrouted 0\n"
+      ++ codes "branch 0 written 1 errors 0 optional 0\nunit b 0 2 committed records 1 bad 0 rows 1 unrouted 0\n"
+      ++ codes "branch 0 written 1 errors 0 optional 0\nmark a 2 2\nmark b 2 2\n"
+      ++ codes "total records 2 bad 0 rows 2 unrouted 0\ntotal branch 0 written 2 errors 0 optional 0\nruns 1\n"
+      ++ codes "status 0\n")
   pub pulls_fail : Makes retrying_job one_line_each (0 ∷ 1 ∷ []) nothing_yet one_each
       (failed Fault ∷ good (lines_written 1) [] ∷ []) after_b_alone
-      (codes "job j17 policy successful\nunit a 0 2 failed fault\nunit b 0 2 committed records 1 bad 0 rows 1 unrouted 0\nbranch 0 written 1 errors 0 optional 0\nmark a 0 2\nmark b 2 2\ntotal records 1 bad 0 rows 1 unrouted 0\ntotal branch 0 written 1 errors 0 optional 0\nruns 1\nstatus 1\n")
+      (codes "job j17 policy successful\nunit a 0 2 failed fault\n"
+      ++ codes "unit b 0 2 committed records 1 bad 0 rows 1 unrouted 0\nbranch 0 written 1 errors 0 optional 0\n"
+      ++ codes "mark a 0 2\nmark b 2 2\ntotal records 1 bad 0 rows 1 unrouted 0\n"
+      ++ codes "total branch 0 written 1 errors 0 optional 0\nruns 1\nstatus 1\n")
   pub one_pull_fails : Makes retrying_job one_line_each (0 ∷ []) nothing_yet one_each
       (good (lines_written 1) [] ∷ good (lines_written 1) [] ∷ []) after_both
-      (codes "job j17 policy successful\nunit a 0 2 committed records 1 bad 0 rows 1 unrouted 0\nbranch 0 written 1 errors 0 optional 0\nunit b 0 2 committed records 1 bad 0 rows 1 unrouted 0\nbranch 0 written 1 errors 0 optional 0\nmark a 2 2\nmark b 2 2\ntotal records 2 bad 0 rows 2 unrouted 0\ntotal branch 0 written 2 errors 0 optional 0\nruns 1\nstatus 0\n")
+      (codes "job j17 policy successful\nunit a 0 2 committed records 1 bad 0 rows 1 unrouted 0\n"
+      ++ codes "branch 0 written 1 errors 0 optional 0\nunit b 0 2 committed records 1 bad 0 rows 1 unrouted 0\n"
+      ++ codes "branch 0 written 1 errors 0 optional 0\nmark a 2 2\nmark b 2 2\n"
+      ++ codes "total records 2 bad 0 rows 2 unrouted 0\ntotal branch 0 written 2 errors 0 optional 0\nruns 1\n"
+      ++ codes "status 0\n")
   pub name_too_long : Makes job ((long_name, codes "x\n") ∷ []) [] nothing_yet [] [] nothing_yet
       (codes "job j1 policy full\ntoo-long " ++ long_name ++ codes
       "\ntotal records 0 bad 0 rows 0 unrouted 0\ntotal branch 0 written 0 errors 0 optional 0\nruns 0\nstatus 0\n")
   pub one_dataset : told_text two_datasets [] both_datasets after_second_dataset
-      ≡ codes "job j16 policy full\nunit a%2Fx 0 2 failed kill 0 0 0\nunit b%2Fx 0 2 committed records 1 bad 0 rows 1 unrouted 0\nbranch 0 written 1 errors 0 optional 0\nmark b%2Fx 2 2\ntotal records 1 bad 0 rows 1 unrouted 0\ntotal branch 0 written 1 errors 0 optional 0\nruns 1\nstatus 1\n"
+      ≡ codes "job j16 policy full\nunit a%2Fx 0 2 failed kill 0 0 0\n"
+      ++ codes "unit b%2Fx 0 2 committed records 1 bad 0 rows 1 unrouted 0\n"
+      ++ codes "branch 0 written 1 errors 0 optional 0\nmark b%2Fx 2 2\ntotal records 1 bad 0 rows 1 unrouted 0\n"
+      ++ codes "total branch 0 written 1 errors 0 optional 0\nruns 1\nstatus 1\n"
 
 -- ---- commands
 
@@ -171,15 +199,20 @@ two_outputs = record plain_plan {
 
 pub record WorkedCommands : Type 0 where
   pub one_killed : state_report (codes "j12") (Some (record after_a_kill { pipelines = plain_pipeline ∷ [] }))
-      ≡ codes "job j12\nmark a.log 2 6\nopen a.log 2 4\npipeline 0 ranges 2\ntotal records 2 bad 0 rows 2 unrouted 0\ntotal branch 0 written 2 errors 0 optional 0\nruns 1\nstatus 0\n"
+      ≡ codes "job j12\nmark a.log 2 6\nopen a.log 2 4\npipeline 0 ranges 2\n"
+      ++ codes "total records 2 bad 0 rows 2 unrouted 0\ntotal branch 0 written 2 errors 0 optional 0\nruns 1\n"
+      ++ codes "status 0\n"
   pub another_pipeline : state_report (codes "j1") (Some two_pipelines)
-      ≡ codes "job j1\nmark a.log 6 6\npipeline 0 ranges 1\npipeline 1 ranges 1\ntotal records 3 bad 0 rows 3 unrouted 0\ntotal branch 0 written 3 errors 0 optional 0\nruns 2\nstatus 0\n"
+      ≡ codes "job j1\nmark a.log 6 6\npipeline 0 ranges 1\npipeline 1 ranges 1\n"
+      ++ codes "total records 3 bad 0 rows 3 unrouted 0\ntotal branch 0 written 3 errors 0 optional 0\nruns 2\n"
+      ++ codes "status 0\n"
   pub no_state : state_report (codes "j1") None
       ≡ codes "job j1\ntotal records 0 bad 0 rows 0 unrouted 0\nruns 0\nstatus 0\n"
   pub was_open : recovery_report (codes "j1") true ≡ codes "recovered j1 sequence open\nstatus 0\n"
   pub was_closed : recovery_report (codes "j1") false ≡ codes "recovered j1 sequence none\nstatus 0\n"
   pub checked : check_report (codes "clicks") two_outputs (codes "data.publisher.final.dir" ∷ codes "a b" ∷ [] ∷ [])
-      ≡ codes "job clicks ok\nbranch 0 csv status:int,path:text\nbranch 1 json ip:text,path:text,status:int\nunknown data.publisher.final.dir\nunknown a%20b\nunknown \nstatus 0\n"
+      ≡ codes "job clicks ok\nbranch 0 csv status:int,path:text\nbranch 1 json ip:text,path:text,status:int\n"
+      ++ codes "unknown data.publisher.final.dir\nunknown a%20b\nunknown \nstatus 0\n"
   pub checked_bool : columns_word (byte_column (codes "b") kind.Bool ∷ []) ≡ codes "b:bool"
   pub checked_lines : check_report (codes "j1") plain_plan [] ≡ codes "job j1 ok\nbranch 0 lines line:text\nstatus 0\n"
 
