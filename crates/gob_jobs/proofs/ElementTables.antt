@@ -89,7 +89,7 @@ numbers_are = refl
 
 pub element_tables : ElementTables
 element_tables = record {
-  trimmed = trimmed_are;
+  without_blanks = trimmed_are;
   elements = elements_are;
   words = words_are;
   value_words = value_words_are;

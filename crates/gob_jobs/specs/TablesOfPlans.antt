@@ -216,7 +216,7 @@ WebTier = job_in_file (codes "clicks") web_tier ≡ Ok (Ok (record {
     branches = record {
       steps = step.Keep (codes "status" ∷ codes "path" ∷ []) ∷ [];
       policies = record {
-        column_test = column_test false "status" (check.Compare how.Lt (value.Int (pos 500)));
+        test = column_test false "status" (check.Compare how.Lt (value.Int (pos 500)));
         mode =
             mode.Optional;
       } ∷ [];
