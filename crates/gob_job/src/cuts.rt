@@ -44,7 +44,7 @@ fn without_end(text: &[u8]) -> &[u8]
 }
 
 /// The bytes without spaces and tabs at either end.
-#[tactic(auto, unfolding(gob_jobs::specs::Words::trimmed))]
+#[tactic(auto, unfolding(gob_jobs::specs::Words::without_blanks))]
 pub(crate) fn trimmed(text: &[u8]) -> &[u8]
     ensures { result.now ≡ spec.without_blanks text.now }
 {
@@ -180,7 +180,7 @@ pub(crate) fn column_word(alloc: Global, word: &[u8]) -> Result<Option<Text>, No
 }
 
 /// The text without spaces and tabs at either end.
-#[tactic(auto, unfolding(gob_jobs::specs::Words::trimmed))]
+#[tactic(auto, unfolding(gob_jobs::specs::Words::without_blanks))]
 pub(crate) fn trimmed_text(text: &str) -> &str
     ensures { result.now ≡ spec.without_blanks text.now }
 {

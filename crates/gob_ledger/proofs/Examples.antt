@@ -46,7 +46,7 @@ worked = record {
     part = codes "a.log";
     marks = record { next = 4; finished = range_done 0 4 ∷ []; owed = [] };
     of_part = refl;
-    range_done = range_done 0 4;
+    done = range_done 0 4;
     of_marks = (0, lit< tt, refl);
     pipeline = plain_pipeline;
     of_state = refl;

@@ -99,7 +99,7 @@ fn date_of(second: i64) -> Option<Date>
     Some(Date::from_days_since_min(DAYS_BEFORE_1970 + days))
 }
 
-#[tactic(auto, unfolding(gob_bytes::specs::Digits::padded))]
+#[tactic(auto, unfolding(gob_bytes::specs::Digits::padded_digits))]
 fn folder(date: Date) -> [u8; 11]
     ensures { result ≡ date_folder (date_parts date) }
 {
