@@ -25,7 +25,7 @@ use Rattle.gob_recovery.proofs.Settled.{cleaned_other, cleaned_staged}
 use Rattle.gob_history.specs.Laws.{CommittedGroup, StagedFor, StagedOver, change_over, group_steps, moves_of}
 use Rattle.gob_history.specs.Laws.{removes_of}
 use Rattle.gob_history.specs.Laws.{staged_state}
-use Rattle.gob_history.specs.Runs.{done_in, kept_where, next_of_group, stored_where}
+use Rattle.gob_history.specs.Runs.{done_in, kept_where, next_of_group}
 use Rattle.gob_history.proofs.Keeps.{committing, kept_is}
 use Rattle.gob_segments.specs.declared.change.Loaded.{Loaded}
 use Rattle.gob_state.specs.Committed.{judged_by}
@@ -156,10 +156,6 @@ pub group_rises : (rules : CommitRules) (l : Loaded) (units : List WorkUnit) (re
 group_rises rules l units results t n apart a =
     maps_map (λ m added rise j held settled has s.
     rose_by j held rules l units results t settled m added has n apart rise s) a
-
-pub stored_some : (o : Option State) (next : State) (js : List Judged) → js ≢ [] → stored_where o next js ≡ Some next
-stored_some o next [] some = absurd (some refl)
-stored_some o next (d ∷ ds) some = refl
 
 ended_by : (j : Job) (held : Held) (rules : CommitRules) (l : Loaded) (units : List WorkUnit)
     (results : List UnitResult) (t : State) (changes : ℕ) (settled m : Files) (added : List Files) → HasRules j rules

@@ -12,12 +12,11 @@ use Rattle.std.proofs.lemmas.Bool.Decides.{nat_tests}
 use Rattle.std.proofs.lemmas.Grind.{flat_map-append}
 use Rattle.std.proofs.lemmas.List.Sorted.{Contains-permutation, IsPermutation-sym}
 use Rattle.gob_bytes.proofs.Tables.{same_name, two_names}
+use Rattle.gob_bytes.proofs.Paths.{under_front, cancel_under, is_state_file, front_more}
 use Rattle.gob_bytes.specs.Digits.{offset, padded_digits}
 use Rattle.gob_bytes.specs.Escapes.{is_digit, is_letter}
 use Rattle.gob_bytes.specs.Paths.{begins_with, delta_folder, delta_name, keeps_state, sequence_name}
 use Rattle.gob_bytes.specs.Paths.{staging, state_name, under}
-use Rattle.gob_device.specs.Names.{IsPathname}
-use Rattle.gob_device.proofs.Names.{name_bytes}
 use Rattle.gob_ledger.specs.Delta.{Change, change_of, earlier_changes, small_change, wants_whole, whole_change}
 use Rattle.gob_ledger.specs.Spelling.{Proper, Small}
 use Rattle.gob_ledger.specs.State.{State}
@@ -27,15 +26,14 @@ use Rattle.gob_recovery.specs.Sequence.{CommitStep, WellFormed, is_file_name, is
 use Rattle.gob_recovery.specs.Sequence.{move}
 use Rattle.gob_recovery.specs.Sequence.{names_in, remove, step_fits}
 use Rattle.gob_history.specs.Laws.{group_steps, moves_of, removes_of, staged_state}
-use Rattle.gob_history.proofs.Fronts.{kept_unstaged, published_not_kept, published_unstaged, under_front}
-use Rattle.gob_history.proofs.Kept.{is_change, is_state}
+use Rattle.gob_history.proofs.Fronts.{kept_unstaged, published_not_kept, published_unstaged}
+use Rattle.gob_history.proofs.Kept.{is_change}
 use Rattle.gob_segments.specs.Changes.{CountsChanges}
 use Rattle.gob_commit.specs.Going.{ChangeNamed, FileOfState, SortsPairs}
 use Rattle.gob_commit.specs.Staged.{NamesFit, Pair}
 use Rattle.gob_commit.proofs.Differing.{differ_sorted, distinct_both, each_all, in_pairs}
 use Rattle.gob_commit.proofs.Differing.{list_all_at}
 use Rattle.gob_commit.proofs.Differing.{list_all_of, names_differ, names_of_pairs, pairs_differ}
-use Rattle.gob_commit.proofs.Names.{same_path}
 
 -- ---- bytes of names
 
@@ -76,10 +74,6 @@ offset_named : (n : ℕ) → list_all is_sequence_byte (offset n) ≡ true
 unfolding offset
 offset_named n = padded_named 20 n
 
-pub file_pathname : (name : List ℕ) → is_file_name name ≡ true → IsPathname name
-file_pathname [] e = e
-file_pathname (b ∷ bs) e = name_bytes is_sequence_byte refl (b ∷ bs) e
-
 pub staged_state_named : (job : List ℕ) → is_file_name job ≡ true → is_file_name (staged_state job) ≡ true
 staged_state_named job named =
     name_then (staging job) (codes "state") (name_then job (47 ∷ codes "stage/") named refl) refl
@@ -107,7 +101,7 @@ not_sequence : (job name : List ℕ) → keeps_state job name ≡ true → name 
 not_sequence job name kept is =
     let apart : bytes_eq (sequence_name job) (state_name job) ≡ false =
     two_names (sequence_name job) (state_name job) (λ e. let no : codes "seq"
-    ≡ codes "state" = same_path job (codes "seq") (codes "state") e in cc) in
+    ≡ codes "state" = cancel_under job (codes "seq") (codes "state") e in cc) in
     let no : false ≡ true =
     sym (ap (λ b. b || begins_with (delta_folder job) (sequence_name job)) apart
     ∙ under_front job (codes "delta/") (codes "seq"))
@@ -124,7 +118,7 @@ state_lasting job name kept =
 -- ---- the names of a change
 
 state_file : (job : List ℕ) → is_file_name job ≡ true → FileOfState job (state_name job)
-state_file job named = record { kept = is_state job; named = name_then job (47 ∷ codes "state") named refl }
+state_file job named = record { kept = is_state_file job; named = name_then job (47 ∷ codes "state") named refl }
 
 change_file : (job : List ℕ) (run : ℕ) → is_file_name job ≡ true → FileOfState job (delta_name job run)
 change_file job run named = record {
@@ -218,11 +212,6 @@ step_names job c pairs =
 
 pub state_is_staged : (job : List ℕ) → begins_with (staging job) (staged_state job) ≡ true
 state_is_staged job = front_more (staging job) (codes "state")
-  where
-    front_more : (front more : List ℕ) → begins_with front (front ++ more) ≡ true
-    front_more [] more = refl
-    front_more (b ∷ bs) more = and_from (nat_eq b b) (begins_with bs (bs ++ more)) (grind (arith, nat_tests))
-        (front_more bs more)
 
 -- what is moved is staged, and goes to a lasting name
 move_fits : (job : List ℕ) (pairs : List Pair) (p : Pair) → NamesFit job pairs → Contains pairs p

@@ -12,6 +12,7 @@ use Rattle.gob_plan.specs.declared.units.UnitResult.{UnitResult}
 use Rattle.gob_meaning.specs.Results.{Verdict}
 use Rattle.gob_ledger.specs.Groups.{dataset_of, is_committed}
 use Rattle.gob_ledger.specs.Next.{Judged, allows, is_good}
+use Rattle.gob_ledger.proofs.Scheduling.{or_none}
 use Rattle.gob_state.specs.Committed.{judged_by, may_commit, verdict_in, verdicts_in}
 use Rattle.gob_commit.specs.Groups.{is_bad_unit}
 use Rattle.gob_state.proofs.NextLemmas.{length_verdicts}
@@ -50,10 +51,6 @@ bad_more q units results i u r old now whole below within is made put so_far =
 and_not : (a b : Bool) → b ≡ true → (a && not b) ≡ false
 and_not true b e = ap not e
 and_not false b e = refl
-
-or_none : (a b : Bool) → b ≡ false → (a || b) ≡ a
-or_none true b e = refl
-or_none false b e = e
 
 pub good_stays : (q : List ℕ) (u : WorkUnit) (r : UnitResult) (old good : Bool) → good ≡ is_good (verdict_in r)
     → good ≡ true → old ≡ (old || is_bad_unit q (u, verdict_in r))

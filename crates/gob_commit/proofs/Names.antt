@@ -1,7 +1,7 @@
 -- The names of what units of different partitions publish.
-use Rattle.std.proofs.Common.{◌≡◌, ℕ, List, [], ◌∷◌, sym, map, ◌∙◌}
+use Rattle.std.proofs.Common.{◌≡◌, List, sym, map, ◌∙◌}
 use Rattle.std.specs.List.{Contains}
-use Rattle.gob_bytes.specs.Paths.{under}
+use Rattle.gob_bytes.proofs.Paths.{cancel_under}
 use Rattle.gob_meaning.specs.Job.{Job}
 use Rattle.gob_meaning.proofs.Apart.{names_apart}
 use Rattle.gob_meaning.proofs.Placed.{sent_is_placed}
@@ -12,10 +12,6 @@ use Rattle.gob_ledger.proofs.Members.{in_filter, in_flat_map}
 use Rattle.gob_history.specs.Runs.{done_in}
 use Rattle.gob_commit.specs.Laws.{ApartUnitsPublishApart}
 
-pub same_path : (job x y : List ℕ) → under job x ≡ under job y → x ≡ y
-same_path [] x y e = cc
-same_path (b ∷ job) x y e = same_path job x y (let tail : under job x ≡ under job y = cc in tail)
-
 done_is_of : (job : Job) (group : List Judged) (j : Judged) → Contains (done_in job group) j → Contains group j
 done_is_of job group j h = (in_filter (λ (k : Judged). allows job.policy (map (λ (i : Judged). i.1) group) k.1) group j
     h).0
@@ -25,7 +21,7 @@ apart_units job held before group few ranges range apart name content other u v 
     let found = in_flat_map (done_in job) before u.unit u.of_units in
     let first = done_is_of job found.0 u.unit found.2 in
     let second = done_is_of job group v.unit v.of_units in
-    let paths : u.path ≡ v.path = same_path job.name u.path v.path (sym u.called ∙ v.called) in
+    let paths : u.path ≡ v.path = cancel_under job.name u.path v.path (sym u.called ∙ v.called) in
     let same = names_apart job.plan job.plan u.unit.0.part v.unit.0.part u.unit.0.lo v.unit.0.lo u.unit.0.hi v.unit.0.hi
     u.made.target v.made.target (ranges found.0 u.unit found.1 first) (range v.unit second)
     (sent_is_placed job.plan u.unit.0.lo (bytes_of_range held u.unit.0.part (span_of u.unit.0)) u.made.target few

@@ -5,6 +5,7 @@ use Rattle.std.specs.List.{AllByRecursion, Contains, list_all}
 use Rattle.std.specs.Str.{bytes_eq}
 use Rattle.gob_bytes.specs.Paths.{begins_with, staging}
 use Rattle.gob_bytes.proofs.Tables.{two_names}
+use Rattle.gob_bytes.proofs.Paths.{under_front}
 use Rattle.gob_device.specs.Disk.{after_remove}
 use Rattle.gob_ledger.proofs.Members.{first_in, later_in}
 use Rattle.gob_recovery.specs.Commits.{staged_sequence}
@@ -12,8 +13,7 @@ use Rattle.gob_recovery.specs.Sequence.{CommitStep, move, remove, is_file_name, 
 use Rattle.gob_recovery.specs.Sequence.{step_fits}
 use Rattle.gob_recovery.specs.Settle.{do_steps, without_staging}
 use Rattle.gob_recovery.proofs.Again.{Off}
-use Rattle.gob_history.proofs.Fronts.{under_front}
-use Rattle.gob_history.proofs.Steps.{off_stays}
+use Rattle.gob_recovery.proofs.Opened.{steps_still}
 use Rattle.gob_commit.specs.Laws.{PartsKeepTheRest}
 
 head_of : (a b : Bool) → (a && b) ≡ true → a ≡ true
@@ -82,5 +82,5 @@ parts_keep job steps m fits = record {
       ∙ sym (ap (λ b. cond b None (do_steps steps m name)) away);
   rest = λ name staged other unmoved.
       ap (λ b. cond b None (do_steps steps m name)) (two_names name (staged_sequence job) other)
-      ∙ off_stays steps m name (parts_off job steps name fits.each staged unmoved);
+      ∙ steps_still steps m name (parts_off job steps name fits.each staged unmoved);
 }

@@ -1,7 +1,7 @@
 -- The places of each dataset's units.
 use Rattle.std.proofs.Common.{◌≡◌, ℕ, zero, suc, ◌+◌, ◌<◌, Bool, true, false, cond, List, [], ◌∷◌}
 use Rattle.std.proofs.Common.{◌++◌}
-use Rattle.std.proofs.Common.{map, length, take, get_or, refl, sym, ap, subst, ◌∙◌, arith, Some, None, Bor, Vec, Global}
+use Rattle.std.proofs.Common.{map, length, take, get_or, refl, sym, ap, subst, ◌∙◌, arith, Some, None, Vec, Global}
 use Rattle.std.proofs.Common.{option_map, unwrap_or, slice_get, add-one, append-nil, append_assoc, length-append}
 use Rattle.std.proofs.Common.{zero-add}
 use Rattle.std.specs.declared.cmp.Ordering.{Ordering}
@@ -16,6 +16,7 @@ use Rattle.std.specs.Ordering.{nat_cmp}
 use Rattle.std.specs.Str.{bytes_eq}
 use Rattle.std.proofs.lemmas.Map.Keys.{sorted_head, sorted_tail}
 use Rattle.std.proofs.lemmas.Map.Text.{btree_map_updates_str, is_eq-slice_cmp}
+use Rattle.gob_seq.proofs.Once.{Name}
 use Rattle.gob_bytes.proofs.Tables.{at-with_name, at_from_member, rising-with_name, same_name, same_tables}
 use Rattle.gob_bytes.specs.Tables.{IsInByteOrder, Table, at_name, names_of}
 use Rattle.gob_plan.specs.declared.units.Unit.{Unit as WorkUnit}
@@ -23,9 +24,6 @@ use Rattle.gob_ledger.specs.Groups.{by_dataset, dataset_of, groups_of}
 use Rattle.gob_ledger.specs.Next.{Judged}
 use Rattle.gob_ledger.proofs.Members.{in_map}
 use Rattle.gob_commit.specs.Groups.{ArePlaces, PlacesAre, picked_items, places_from, some_of}
-
-abbrev pub Name : Type 0
-Name = Bor (List ℕ)
 
 abbrev pub Places : Type 0
 Places = Vec ℕ Global

@@ -9,6 +9,7 @@ use Rattle.std.specs.List.{Contains}
 use Rattle.std.specs.Str.{bytes_eq}
 use Rattle.std.proofs.lemmas.Bool.{and_parts}
 use Rattle.gob_bytes.proofs.Tables.{name_itself}
+use Rattle.gob_bytes.proofs.Options.{if_both}
 use Rattle.gob_bytes.specs.Paths.{begins_with, sequence_name, staging}
 use Rattle.gob_device.specs.Disk.{AddsMaps, Disk, EachOf, Files, Rises, last_map}
 use Rattle.gob_device.specs.Supply.{Held}
@@ -29,7 +30,7 @@ use Rattle.gob_recovery.specs.Settle.{SettlesAs}
 use Rattle.gob_history.specs.Laws.{StagedFor, StagedOver}
 use Rattle.gob_history.specs.Runs.{after_group, after_groups, kept_after, kept_after_group, stored_where}
 use Rattle.gob_segments.specs.declared.change.Loaded.{Loaded}
-use Rattle.gob_seq.proofs.Trails.{if_both, maps_both, maps_still}
+use Rattle.gob_seq.proofs.Trails.{maps_both, maps_still}
 use Rattle.gob_state.specs.Committed.{judged_by, verdict_in, verdicts_in}
 use Rattle.gob_commit.specs.declared.rules.CommitRules.{CommitRules}
 use Rattle.gob_commit.specs.Done.{EndsWith, GroupsDone, PublishApart, PublishedFrom}

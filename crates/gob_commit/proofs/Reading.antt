@@ -1,9 +1,10 @@
 -- Where published files come from.
-use Rattle.std.proofs.Common.{◌≡◌, ◌≢◌, ⊎_elim, inl, inr, ℕ, true, false, cond, List, [], ◌∷◌, ◌++◌, refl, sym, ap}
-use Rattle.std.proofs.Common.{subst, ◌∙◌, ◌⊎◌, codes}
+use Rattle.std.proofs.Common.{◌≡◌, ◌≢◌, ⊎_elim, inl, inr, ℕ, true, false, List, [], ◌∷◌, ◌++◌, refl, sym, ap}
+use Rattle.std.proofs.Common.{subst, ◌∙◌, ◌⊎◌}
 use Rattle.std.specs.List.{Contains}
 use Rattle.std.proofs.lemmas.List.Elements.{Contains-append_left, Contains-append_right}
-use Rattle.gob_bytes.specs.Paths.{begins_with, is_published, sequence_name, staging, under}
+use Rattle.gob_bytes.specs.Paths.{is_published, sequence_name, staging}
+use Rattle.gob_bytes.proofs.Paths.{sequence_unpublished}
 use Rattle.gob_device.specs.Disk.{EachOf, Files}
 use Rattle.gob_device.proofs.Trail.{each-append, each-map}
 use Rattle.gob_ledger.specs.Delta.{Change}
@@ -12,19 +13,13 @@ use Rattle.gob_recovery.specs.Commits.{OnlyBelow}
 use Rattle.gob_recovery.specs.Settle.{do_steps, without_staging}
 use Rattle.gob_recovery.proofs.Settled.{cleaned_other}
 use Rattle.gob_history.specs.Laws.{StagedOver, group_steps}
-use Rattle.gob_history.proofs.Fronts.{published_unstaged, under_front}
+use Rattle.gob_history.proofs.Fronts.{published_unstaged}
 use Rattle.gob_seq.specs.Maps.{CommitsByName}
 use Rattle.gob_commit.specs.Done.{EndsWith, PublishedFrom}
 use Rattle.gob_commit.specs.Going.{settled_by, with_state}
 use Rattle.gob_commit.specs.Staged.{Pair}
 
 -- ---- published names
-
-pub sequence_unpublished : (job : List ℕ) → is_published job (sequence_name job) ≡ false
-sequence_unpublished job =
-    ap (λ v. cond v true (begins_with (under job (codes "err/")) (sequence_name job)))
-    (under_front job (codes "out/") (codes "seq"))
-    ∙ under_front job (codes "err/") (codes "seq")
 
 published_apart : (job name : List ℕ) → is_published job name ≡ true → name ≢ sequence_name job
 published_apart job name p e =

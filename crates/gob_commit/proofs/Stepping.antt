@@ -7,6 +7,7 @@ use Rattle.std.proofs.lemmas.List.{append-nil}
 use Rattle.std.proofs.lemmas.List.Elements.{Contains-append_cases}
 use Rattle.std.proofs.lemmas.List.Sorted.{IsPermutation-refl}
 use Rattle.gob_bytes.proofs.Tables.{two_names}
+use Rattle.gob_bytes.proofs.Options.{if_both}
 use Rattle.gob_bytes.specs.Paths.{begins_with, sequence_name, staging, under}
 use Rattle.gob_device.specs.Disk.{AddsMaps, Along, Both, Disk, EachOf, Files, OnlyAt, Rises, Went}
 use Rattle.gob_device.specs.Disk.{after_append, after_create}
@@ -22,7 +23,7 @@ use Rattle.gob_recovery.proofs.Commits.{staged_settles, without_alike, written}
 use Rattle.gob_history.specs.Laws.{group_steps, moves_of, removes_of, staged_state}
 use Rattle.gob_seq.specs.Maps.{CommitsByName, EndsAs, GoesOver, IsReady, SettlesWell, after_write}
 use Rattle.gob_seq.proofs.Named.{below_job}
-use Rattle.gob_seq.proofs.Trails.{if_both, maps_both, maps_known, rises_map}
+use Rattle.gob_seq.proofs.Trails.{maps_both, maps_known, rises_map}
 use Rattle.gob_commit.specs.Going.{ChangeNamed, SortsPairs, StepsEnd, StepsRise, settled_by, with_state}
 use Rattle.gob_commit.specs.Staged.{AreReadyToMove, NamesFit, Pair}
 use Rattle.gob_commit.proofs.Differing.{list_all_of}

@@ -4,3 +4,5 @@ pub mod Looks
 pub mod Names
 pub mod Trail
 pub mod Writes
+pub mod Only
+pub mod Supply

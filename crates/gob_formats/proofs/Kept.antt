@@ -1,7 +1,8 @@
 -- Lists that were added to, and loops that add.
 use Rattle.std.proofs.Common.{◌≡◌, ℕ, suc, ◌≤◌, ◌<◌, ◌+◌, List, [], ◌∷◌, ◌++◌, length, take, drop, get_or, refl, sym}
-use Rattle.std.proofs.Common.{ap, ◌∙◌, arith, take_all, append_assoc, Bool, true, false, ◌==◌}
+use Rattle.std.proofs.Common.{ap, ◌∙◌, arith, take_all, append_assoc, true, false, ◌==◌}
 use Rattle.std.proofs.lemmas.List.{take-take, take_at, length-take, get_or_default, drop_more, drop_all}
+use Rattle.std.proofs.lemmas.Bool.{false_from_ne_true}
 use Rattle.std.specs.List.{list_any}
 use Rattle.gob_formats.specs.Adding.{KeepsFront}
 
@@ -46,16 +47,12 @@ pub loop_added : {X A : Type 0} (F : List X → List A) (xs : List X) (i : ℕ) 
     → length xs ≤ i → now ++ F (drop i xs) ≡ before ++ F xs → now ++ F [] ≡ before ++ F xs
 loop_added F xs i before now over so_far = ap (λ l. now ++ F l) (sym (drop_all i xs over)) ∙ so_far
 
-pub not_true : (b : Bool) → (b ≡ true → ⊥) → b ≡ false
-not_true true n = absurd (n refl)
-not_true false n = refl
-
 -- a byte that is found nowhere
 pub nowhere : (a : ℕ) (xs : List ℕ) → ((k : ℕ) → 0 ≤ k → k < length xs → (get_or xs k 0 == a) ≡ true → ⊥)
     → list_any (λ b. b == a) xs ≡ false
 nowhere a [] none = refl
 nowhere a (x ∷ xs) none =
-    let here = not_true (x == a) (none 0 (omega arith) (omega arith)) in
+    let here = false_from_ne_true (x == a) (none 0 (omega arith) (omega arith)) in
     rw here (nowhere a xs (λ k low high. none (suc k) (omega arith) (omega arith)))
 
 -- a text between two others

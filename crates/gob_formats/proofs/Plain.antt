@@ -1,9 +1,9 @@
 -- The fields of a plain line are what stands between its commas.
 use Rattle.std.proofs.Common.{◌≡◌, ℕ, zero, suc, ◌+◌, ◌<◌, ◌==◌, ◌∷◌, ◌++◌, [], List, length, take, drop, get_or, Bool}
 use Rattle.std.proofs.Common.{true, false, Some, None, refl, ap, ◌∙◌, arith, inl, inr, append-nil, append_assoc}
-use Rattle.std.specs.Prelude.{◌||◌, ◌&&◌, not}
+use Rattle.std.specs.Prelude.{◌&&◌, not}
 use Rattle.std.specs.List.{list_any}
-use Rattle.std.proofs.lemmas.Bool.{cases_Bool}
+use Rattle.std.proofs.lemmas.Bool.{cases_Bool, false_from_ne_true, or_parts}
 use Rattle.csv.specs.Machine.{next_record}
 use Rattle.csv.specs.Reading.{default_config, records_from, records_next, records, strip_bom}
 use Rattle.csv.proofs.RoundTrip.{start-same}
@@ -13,22 +13,13 @@ use Rattle.gob_plan.specs.declared.rows.Column.{Column}
 use Rattle.gob_plan.specs.declared.rows.Row.{Row}
 use Rattle.gob_meaning.specs.Formats.{row_of, field_values, csv_line_rows}
 use Rattle.gob_formats.specs.Splits.{is_mark, is_plain_line, comma_fields}
-use Rattle.gob_formats.proofs.Kept.{not_true}
 use Rattle.gob_formats.proofs.Machine.{none_left}
-
-or_left : (a b : Bool) → (a || b) ≡ false → a ≡ false
-or_left false b e = refl
-or_left true b e = cc e
-
-or_right : (a b : Bool) → (a || b) ≡ false → b ≡ false
-or_right false b e = e
-or_right true b e = cc e
 
 no_mark : (b : ℕ) → is_mark b ≡ false → ((b == 34) ≡ false) × ((b == 13) ≡ false) × ((b == 10) ≡ false)
 no_mark b e =
-    let q = not_true (b == 34) (λ t. cc (rw t at e)) in
-    let r = not_true (b == 13) (λ t. cc (rw (q, t) at e)) in
-    let n = not_true (b == 10) (λ t. cc (rw (q, r, t) at e)) in
+    let q = false_from_ne_true (b == 34) (λ t. cc (rw t at e)) in
+    let r = false_from_ne_true (b == 13) (λ t. cc (rw (q, t) at e)) in
+    let n = false_from_ne_true (b == 10) (λ t. cc (rw (q, r, t) at e)) in
     (q, r, n)
 
 -- at the start of a field as in one
@@ -36,7 +27,7 @@ start_any : (fields : List (List ℕ)) (text : List ℕ) → list_any is_mark te
     → next_record default_config st.StartField fields [] text ≡ next_record default_config st.InField fields [] text
 unfolding next_record
 start_any fields [] e = refl
-start_any fields (c ∷ tail) e = start-same fields [] c tail (no_mark c (or_left _ _ e)).0
+start_any fields (c ∷ tail) e = start-same fields [] c tail (no_mark c (or_parts _ _ e).0).0
 
 plain_in : (fields : List (List ℕ)) (field text : List ℕ) → list_any is_mark text ≡ false
     → next_record default_config st.InField fields field text
@@ -45,13 +36,13 @@ unfolding next_record comma_fields
 plain_in fields field [] e = refl
 plain_in fields field (b ∷ rest) e = elim (cases_Bool (b == 44)) [
   | inl same ↦
-      rw same (start_any (fields ++ (field ∷ [])) rest (or_right _ _ e)
-      ∙ plain_in (fields ++ (field ∷ [])) [] rest (or_right _ _ e)
+      rw same (start_any (fields ++ (field ∷ [])) rest (or_parts _ _ e).1
+      ∙ plain_in (fields ++ (field ∷ [])) [] rest (or_parts _ _ e).1
       ∙ ap (λ (f : List (List ℕ)). Some (f, st.StartRecord, []))
       (append_assoc fields (field ∷ []) (comma_fields [] rest)))
   | inr other ↦
-      let q = no_mark b (or_left _ _ e) in
-      rw (other, q.1, q.2) (plain_in fields (field ++ (b ∷ [])) rest (or_right _ _ e))
+      let q = no_mark b (or_parts _ _ e).0 in
+      rw (other, q.1, q.2) (plain_in fields (field ++ (b ∷ [])) rest (or_parts _ _ e).1)
 ]
 
 plain_record : (b : ℕ) (rest : List ℕ) → list_any is_mark (b ∷ rest) ≡ false
@@ -59,7 +50,7 @@ plain_record : (b : ℕ) (rest : List ℕ) → list_any is_mark (b ∷ rest) ≡
     ≡ Some (comma_fields [] (b ∷ rest), st.StartRecord, [])
 unfolding next_record comma_fields
 plain_record b rest e =
-    let q = no_mark b (or_left _ _ e) in
+    let q = no_mark b (or_parts _ _ e).0 in
     let first : next_record default_config st.StartRecord [] [] (b ∷ rest)
     ≡ next_record default_config st.InField [] [] (b ∷ rest) = rw (q.0, q.1, q.2) refl in
     first ∙ plain_in [] [] (b ∷ rest) e
@@ -114,7 +105,7 @@ pub cut_none : (field text : List ℕ)
 unfolding comma_fields
 cut_none field [] h = rw (append-nil field) refl
 cut_none field (b ∷ rest) h =
-    let here = not_true (b == 44) (h 0 (omega arith)) in
+    let here = false_from_ne_true (b == 44) (h 0 (omega arith)) in
     rw here (cut_none (field ++ (b ∷ [])) rest (λ k lt. h (suc k) (omega arith))
     ∙ ap (λ (f : List ℕ). f ∷ []) (append_assoc field (b ∷ []) rest))
 
@@ -125,7 +116,7 @@ unfolding comma_fields
 cut_at field [] at lt h is = absurd (omega arith)
 cut_at field (b ∷ rest) zero lt h is = rw (is, append-nil field) refl
 cut_at field (b ∷ rest) (suc at) lt h is =
-    let here = not_true (b == 44) (h 0 (omega arith)) in
+    let here = false_from_ne_true (b == 44) (h 0 (omega arith)) in
     rw here (cut_at (field ++ (b ∷ [])) rest at (omega arith) (λ k less. h (suc k) (omega arith)) is
     ∙ ap (λ (f : List ℕ). f ∷ comma_fields [] (drop (suc at) rest)) (append_assoc field (b ∷ []) (take at rest)))
 

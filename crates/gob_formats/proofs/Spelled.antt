@@ -1,7 +1,7 @@
 -- The members of a record with their texts spell the object of its values.
 use Rattle.std.proofs.Common.{◌≡◌, ℕ, ◌+◌, ◌-◌, ◌<◌, ◌≤◌, ◌==◌, List, [], ◌∷◌, ◌++◌, length, drop, take, set, map, suc}
 use Rattle.std.proofs.Common.{get_or, Bool, true, false, refl, sym, ap, ◌∙◌, arith, append_assoc, Ordering}
-use Rattle.std.proofs.lemmas.Bool.{eqb-true}
+use Rattle.std.proofs.lemmas.Bool.{eqb-true, false_from_ne_true, or_parts}
 use Rattle.std.proofs.lemmas.List.{drop_more, set_split, map-append}
 use Rattle.std.specs.Prelude.{nat_lt, ◌||◌, ◌&&◌}
 use Rattle.std.specs.Ordering.{nat_cmp, match_ordering}
@@ -23,7 +23,6 @@ use Rattle.gob_formats.specs.declared.json_write.Place.{Place}
 use Rattle.gob_formats.specs.Members.{Named, named_place, put_name, names_from, key_text, keyed_members, column_value}
 use Rattle.gob_formats.specs.Members.{members_at}
 use Rattle.gob_formats.specs.Members.{members_written}
-use Rattle.gob_formats.proofs.Kept.{not_true}
 
 -- ---- the members in order
 
@@ -160,16 +159,8 @@ put_at_equal ps at p p' name index whole within is same becomes so_far =
 
 -- ---- texts without escapes
 
-or_left : (a b : Bool) → (a || b) ≡ false → a ≡ false
-or_left false b e = refl
-or_left true b e = cc e
-
-or_right : (a b : Bool) → (a || b) ≡ false → b ≡ false
-or_right false b e = e
-or_right true b e = cc e
-
 other_byte : (x k : ℕ) → nat_lt k 32 ≡ true → nat_lt x 32 ≡ false → (x == k) ≡ false
-other_byte x k small big = not_true (x == k) (λ t.
+other_byte x k small big = false_from_ne_true (x == k) (λ t.
     let same : x ≡ k = eqb-true x k t in
     let less : nat_lt x 32 ≡ true = ap (λ n. nat_lt n 32) same ∙ small in
     cc)
@@ -178,10 +169,10 @@ plain_byte : (x : ℕ) → is_escaped x ≡ false → escape_byte x ≡ x ∷ []
 unfolding escape_byte
 plain_byte x plain =
     let quote : (x == 34) ≡ false =
-    or_left (x == 34) (x == 92) (or_left ((x == 34) || (x == 92)) (nat_lt x 32) plain) in
+    (or_parts (x == 34) (x == 92) (or_parts ((x == 34) || (x == 92)) (nat_lt x 32) plain).0).0 in
     let backslash : (x == 92) ≡ false =
-    or_right (x == 34) (x == 92) (or_left ((x == 34) || (x == 92)) (nat_lt x 32) plain) in
-    let big : nat_lt x 32 ≡ false = or_right ((x == 34) || (x == 92)) (nat_lt x 32) plain in
+    (or_parts (x == 34) (x == 92) (or_parts ((x == 34) || (x == 92)) (nat_lt x 32) plain).0).1 in
+    let big : nat_lt x 32 ≡ false = (or_parts ((x == 34) || (x == 92)) (nat_lt x 32) plain).1 in
     rw (
       quote,
       backslash,
@@ -196,5 +187,5 @@ plain_byte x plain =
 pub plain_escape : (text : List ℕ) → needs_escape text ≡ false → escape text ≡ text
 plain_escape [] plain = refl
 plain_escape (x ∷ xs) plain =
-    ap (λ l. l ++ escape xs) (plain_byte x (or_left (is_escaped x) (needs_escape xs) plain))
-    ∙ ap (λ l. x ∷ l) (plain_escape xs (or_right (is_escaped x) (needs_escape xs) plain))
+    ap (λ l. l ++ escape xs) (plain_byte x (or_parts (is_escaped x) (needs_escape xs) plain).0)
+    ∙ ap (λ l. x ∷ l) (plain_escape xs (or_parts (is_escaped x) (needs_escape xs) plain).1)

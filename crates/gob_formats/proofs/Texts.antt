@@ -3,15 +3,15 @@ use Rattle.std.proofs.Common.{◌≡◌, ℕ, false, cond, nat_eq, List, [], ◌
 use Rattle.std.specs.List.{list_any}
 use Rattle.std.specs.Str.{IsUtf8, is_utf8}
 use Rattle.std.proofs.lemmas.Str.{IsUtf8-from_is_utf8, is_utf8-from_IsUtf8}
+use Rattle.std.proofs.lemmas.Bool.{false_from_ne_true}
 use Rattle.gob_convert.specs.Made.{concatenation}
 use Rattle.gob_plan.specs.declared.rows.Kind.{Kind}
 use Rattle.gob_plan.specs.declared.rows.Value.TheVariants as value
 use Rattle.gob_meaning.specs.Formats.{row_of, text_line_rows, field_value}
 use Rattle.gob_formats.specs.Fields.{line_record, field_read}
-use Rattle.gob_formats.proofs.Kept.{not_true}
 
 pub no_text : (bytes : List ℕ) → ¬ (IsUtf8 bytes) → is_utf8 bytes ≡ false
-no_text bytes other = not_true (is_utf8 bytes) (λ yes. other (IsUtf8-from_is_utf8 bytes yes))
+no_text bytes other = false_from_ne_true (is_utf8 bytes) (λ yes. other (IsUtf8-from_is_utf8 bytes yes))
 
 -- ---- whole lines
 

@@ -1,14 +1,13 @@
 -- Records of csv, put together from their fields.
 use Rattle.std.proofs.Common.{◌≡◌, ℕ, ◌==◌, List, [], ◌∷◌, ◌++◌, length, map, true, false, cond, refl, sym, ap, ◌∙◌}
 use Rattle.std.proofs.Common.{arith, append_assoc, inl, inr}
-use Rattle.std.proofs.lemmas.Bool.{cases_Bool, eqb-true}
+use Rattle.std.proofs.lemmas.Bool.{cases_Bool, eqb-true, false_from_ne_true}
 use Rattle.std.proofs.lemmas.List.{append-nil, length-append}
 use Rattle.std.specs.Prelude.{if◌then◌else◌}
 use Rattle.csv.specs.Writing.{default_writer, needs_quotes, escaped, quoted, field_text, fields_text, is_blank}
 use Rattle.gob_plan.specs.declared.rows.Value.{Value}
 use Rattle.gob_meaning.specs.Formats.{csv_record}
 use Rattle.gob_meaning.specs.Values.{value_text}
-use Rattle.gob_formats.proofs.Kept.{not_true}
 use Rattle.gob_formats.specs.Fields.{field_written, more_fields, record_body}
 
 -- ---- one field
@@ -42,7 +41,7 @@ abbrev pub record_text : List ℕ → List ℕ
 record_text body = body ++ ((if length body == 0 then 34 ∷ 34 ∷ [] else []) ++ 10 ∷ [])
 
 not_empty : (xs ys : List ℕ) (y : ℕ) → (length (xs ++ y ∷ ys) == 0) ≡ false
-not_empty xs ys y = not_true (length (xs ++ y ∷ ys) == 0) (λ t.
+not_empty xs ys y = false_from_ne_true (length (xs ++ y ∷ ys) == 0) (λ t.
     let none : length (xs ++ y ∷ ys) ≡ 0 = eqb-true (length (xs ++ y ∷ ys)) 0 t in
     let sum = length-append xs (y ∷ ys) in
     omega arith)

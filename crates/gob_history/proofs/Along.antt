@@ -1,11 +1,10 @@
 -- Every map of a history stands for a state.
 use Rattle.std.proofs.Common.{◌≡◌, ◌⊎◌, inl, inr, ⊎_elim, ℕ, Bool, true, false, cond, ◌&&◌, ◌||◌, nat_eq, List, [], ◌∷◌}
-use Rattle.std.proofs.Common.{◌++◌, option_map, is_some, refl, sym, ap, subst, ◌∙◌, Some, None, arith, codes, not}
+use Rattle.std.proofs.Common.{◌++◌, option_map, is_some, refl, sym, ap, subst, ◌∙◌, Some, None, codes, not}
 use Rattle.std.specs.declared.option.Option.{Option}
 use Rattle.std.specs.List.{Any, Contains, list_all}
 use Rattle.std.specs.Str.{bytes_eq}
-use Rattle.std.proofs.lemmas.Bool.{and_parts, and_from}
-use Rattle.std.proofs.lemmas.Bool.Decides.{nat_tests}
+use Rattle.std.proofs.lemmas.Bool.{and_parts, and_from, eq-eqb}
 use Rattle.gob_bytes.proofs.Tables.{same_name}
 use Rattle.gob_bytes.specs.Paths.{begins_with, under, staging, sequence_name, state_name, delta_folder, keeps_state}
 use Rattle.gob_bytes.specs.Paths.{is_published}
@@ -117,12 +116,9 @@ last_is P m (n ∷ ns) p each = last_is P n ns each.0 each.1
 
 -- ---- names of others
 
-eq_itself : (b : ℕ) → nat_eq b b ≡ true
-eq_itself b = grind (arith, nat_tests)
-
 of_job : (job rest : List ℕ) → IsOfJob job (under job rest)
 of_job [] rest = refl
-of_job (b ∷ job) rest = and_from _ _ (eq_itself b) (of_job job rest)
+of_job (b ∷ job) rest = and_from _ _ (eq-eqb b b refl) (of_job job rest)
 
 front_less : (job path name : List ℕ) → begins_with (under job path) name ≡ true → IsOfJob job name
 front_less [] path [] e = absurd (let no : false ≡ true = e in cc)

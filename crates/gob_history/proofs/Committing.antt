@@ -17,9 +17,10 @@ use Rattle.gob_recovery.specs.Sequence.{CommitStep, move, remove, step_fits, is_
 use Rattle.gob_recovery.specs.Sequence.{WellFormed}
 use Rattle.gob_recovery.specs.Settle.{do_steps, without_staging, IsSettled}
 use Rattle.gob_recovery.proofs.Again.{Off, apart_from, source_of, steps_apart, not_staged}
+use Rattle.gob_recovery.proofs.Opened.{steps_still}
 use Rattle.gob_history.specs.Runs.{PutsIn, OthersStay}
 use Rattle.gob_history.specs.Laws.{Lasting, StagedFor, StagedOver, moves_of, removes_of}
-use Rattle.gob_history.proofs.Steps.{off_stays, moves_there, removes_there}
+use Rattle.gob_history.proofs.Steps.{moves_there, removes_there}
 use Rattle.gob_history.proofs.Fronts.{makes_published, published_unstaged, published_not_kept}
 
 step_staged : (job source target : List ℕ) → step_fits job (move source target) ≡ true
@@ -181,7 +182,7 @@ left_at job held done before m pairs a b text rs g name un =
           ∙ (ap (do_steps ss m) e ∙ removes_there ss m r apart h),
     ))))
     (λ off. inr (inr (inr (
-      after_at job.name ss m name un ∙ (off_stays ss m name off ∙ g.over name un),
+      after_at job.name ss m name un ∙ (steps_still ss m name off ∙ g.over name un),
       λ p h. (all_member (λ t. Off t name) ss (move p.0 p.1) off (pair_in pairs a b rs p h)).1.0,
     ))))
 
@@ -209,7 +210,7 @@ pub map_left : (job : Job) (held : Held) (done : List Judged) (before m : Files)
 map_left job held done before m pairs a b text rs g = record {
   settled = record {
     closed = after_at job.name ss m (sequence_name job.name) (not_staged job.name)
-        ∙ (off_stays ss m (sequence_name job.name) (steps_apart job.name ss g.fits.each)
+        ∙ (steps_still ss m (sequence_name job.name) (steps_apart job.name ss g.fits.each)
         ∙ (g.over (sequence_name job.name) (not_staged job.name) ∙ g.settled.closed));
     unstaged = λ name e. after_none job.name ss m name e;
   };

@@ -5,6 +5,7 @@ use Rattle.std.specs.declared.option.Option.{Option}
 use Rattle.std.specs.List.{Contains, flat_map}
 use Rattle.gob_device.specs.Disk.{contents_at, Rises}
 use Rattle.gob_device.specs.Supply.{Held}
+use Rattle.gob_device.proofs.Trail.{rises_more}
 use Rattle.gob_meaning.specs.Job.{Job}
 use Rattle.gob_ledger.specs.State.{State}
 use Rattle.gob_ledger.specs.Next.{Judged}
@@ -14,7 +15,7 @@ use Rattle.gob_history.specs.Sound.{AllRecoverTo, Stores}
 use Rattle.gob_history.specs.Runs.{after_group, after_groups, chain_from, done_in}
 use Rattle.gob_history.specs.Laws.{GroupsLeaveOneMore, GroupsStayDurable, RunGoesAlong}
 use Rattle.gob_history.proofs.Steadied.{steadied, quiet_sequence}
-use Rattle.gob_history.proofs.Rising.{rises_stand, rises_more}
+use Rattle.gob_history.proofs.Rising.{rises_stand}
 
 pub after_more : (job : Job) (before rest : List (List Judged)) (o : Option State)
     → after_groups job o (before ++ rest) ≡ after_groups job (after_groups job o before) rest

@@ -1,10 +1,10 @@
 -- The names of published files, of the state's and of staged ones are apart.
-use Rattle.std.proofs.Common.{◌≡◌, ◌⊎◌, inl, inr, ⊎_elim, ℕ, Bool, true, false, cond, ◌&&◌, ◌||◌, nat_eq, List, [], ◌∷◌}
-use Rattle.std.proofs.Common.{refl, sym, ap, subst, ◌∙◌, arith, codes}
+use Rattle.std.proofs.Common.{◌≡◌, ◌⊎◌, inl, inr, ⊎_elim, ℕ, Bool, true, false, cond, ◌||◌, nat_eq, List, [], ◌∷◌}
+use Rattle.std.proofs.Common.{refl, sym, ap, subst, ◌∙◌, codes}
 use Rattle.std.specs.Str.{bytes_eq}
-use Rattle.std.proofs.lemmas.Bool.{and_parts, eqb-true}
-use Rattle.std.proofs.lemmas.Bool.Decides.{nat_tests}
+use Rattle.std.proofs.lemmas.Bool.{and_parts, eqb-true, eq-eqb, false_from_ne_true}
 use Rattle.gob_bytes.proofs.Tables.{same_name}
+use Rattle.gob_bytes.proofs.Paths.{under_front}
 use Rattle.gob_bytes.specs.Paths.{begins_with, under, staging, state_name, delta_folder, keeps_state, is_published}
 use Rattle.gob_device.specs.Supply.{Held}
 use Rattle.gob_meaning.specs.Items.{Target, out, err, bad}
@@ -14,20 +14,13 @@ use Rattle.gob_ledger.specs.Next.{Judged}
 use Rattle.gob_ledger.specs.Expected.{IsPublished}
 use Rattle.gob_ledger.proofs.DeltaNames.{state_not_below}
 
-itself : (b : ℕ) → nat_eq b b ≡ true
-itself b = grind (arith, nat_tests)
-
-pub under_front : (job a b : List ℕ) → begins_with (under job a) (under job b) ≡ begins_with a b
-under_front [] a b = refl
-under_front (c ∷ job) a b = ap (λ v. v && begins_with (under job a) (under job b)) (itself c) ∙ under_front job a b
-
 begins_apart : (x y : ℕ) (a b name : List ℕ) → nat_eq x y ≡ false → begins_with (x ∷ a) name ≡ true
     → begins_with (y ∷ b) name ≡ true → ⊥
 begins_apart x y a b [] apart e f = absurd (let no : false ≡ true = e in cc)
 begins_apart x y a b (c ∷ cs) apart e f =
     let p = eqb-true x c (and_parts (nat_eq x c) _ e).0 in
     let q = eqb-true y c (and_parts (nat_eq y c) _ f).0 in
-    let no : true ≡ false = sym (itself x) ∙ (ap (nat_eq x) (p ∙ sym q) ∙ apart) in cc
+    let no : true ≡ false = sym (eq-eqb x x refl) ∙ (ap (nat_eq x) (p ∙ sym q) ∙ apart) in cc
 
 fronts_apart : (job : List ℕ) (x y : ℕ) (a b name : List ℕ) → nat_eq x y ≡ false
     → begins_with (under job (x ∷ a)) name ≡ true → begins_with (under job (y ∷ b)) name ≡ true → ⊥
@@ -49,12 +42,8 @@ out_or_err job name e = cases (begins_with (under job (codes "out/")) name) refl
     cases true is e = inl is
     cases false is e = inr e
 
-never : (b : Bool) → (b ≡ true → ⊥) → b ≡ false
-never true f = absurd (f refl)
-never false f = refl
-
 pub published_unstaged : (job name : List ℕ) → is_published job name ≡ true → begins_with (staging job) name ≡ false
-published_unstaged job name e = never (begins_with (staging job) name) (λ s. ⊎_elim
+published_unstaged job name e = false_from_ne_true (begins_with (staging job) name) (λ s. ⊎_elim
     (λ p. fronts_apart job 111 115 (codes "ut/") (codes "tage/") name refl p s)
     (λ p. fronts_apart job 101 115 (codes "rr/") (codes "tage/") name refl p s)
     (out_or_err job name e))
@@ -69,7 +58,7 @@ state_or_change job name e = cases (bytes_eq name (state_name job)) refl e
     cases false is e = inr e
 
 pub kept_unstaged : (job name : List ℕ) → keeps_state job name ≡ true → begins_with (staging job) name ≡ false
-kept_unstaged job name e = never (begins_with (staging job) name) (λ s. ⊎_elim
+kept_unstaged job name e = false_from_ne_true (begins_with (staging job) name) (λ s. ⊎_elim
     (λ is. let no : true ≡ false = sym s ∙ (ap (begins_with (staging job)) is
     ∙ under_front job (codes "stage/") (codes "state")) in cc)
     (λ d. fronts_apart job 100 115 (codes "elta/") (codes "tage/") name refl d s)

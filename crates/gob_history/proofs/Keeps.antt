@@ -4,6 +4,7 @@ use Rattle.std.proofs.Common.{length, refl, sym, ap, subst, ◌∙◌, Some, Non
 use Rattle.std.specs.declared.option.Option.{Option}
 use Rattle.std.specs.List.{Contains}
 use Rattle.gob_bytes.specs.Paths.{begins_with, delta_folder, delta_name, keeps_state}
+use Rattle.gob_bytes.proofs.Paths.{is_state_file}
 use Rattle.gob_device.specs.Disk.{Files, clean, contents_of, contents_at}
 use Rattle.gob_device.specs.Supply.{Held}
 use Rattle.gob_meaning.specs.Job.{Job}
@@ -22,7 +23,7 @@ use Rattle.gob_history.specs.Runs.{PutsIn, done_in, kept_where, next_of_group, s
 use Rattle.gob_history.specs.Laws.{CommittingAGroup, change_over, staged_state}
 use Rattle.gob_history.proofs.Committing.{Pair, all_steps, Begun, left_at, after_at, state_in, map_left, remove_in}
 use Rattle.gob_history.proofs.Fronts.{kept_unstaged, published_not_kept, makes_published}
-use Rattle.gob_history.proofs.Kept.{is_state, is_change}
+use Rattle.gob_history.proofs.Kept.{is_change}
 use Rattle.gob_history.proofs.Steps.{moves_there, removes_there}
 
 -- ---- the files that tell the state, after the steps
@@ -74,7 +75,7 @@ record ChangeFits (job : List ℕ) (c : Change) : Type 0 where
 
 whole_fits : (job : List ℕ) (t : State) (rs : List (List ℕ)) → ((r : List ℕ) → Contains rs r → keeps_state job r ≡ true)
     → ChangeFits job (whole_change job rs t)
-whole_fits job t rs each = record { target = is_state job; removes = each }
+whole_fits job t rs each = record { target = is_state_file job; removes = each }
 
 small_fits : (job : List ℕ) (s t : State) (n : ℕ) → ChangeFits job (small_change job s n t)
 small_fits job s t n =
@@ -136,9 +137,9 @@ pub kept_is : (k : Option Kept) (next : Kept) (js : List Judged) → js ≢ [] �
 kept_is k next [] some = absurd (some refl)
 kept_is k next (d ∷ ds) some = refl
 
-stored_is : (o : Option State) (next : State) (js : List Judged) → js ≢ [] → stored_where o next js ≡ Some next
-stored_is o next [] some = absurd (some refl)
-stored_is o next (d ∷ ds) some = refl
+pub stored_some : (o : Option State) (next : State) (js : List Judged) → js ≢ [] → stored_where o next js ≡ Some next
+stored_some o next [] some = absurd (some refl)
+stored_some o next (d ∷ ds) some = refl
 
 nothing_more : (xs : List Judged) → xs ++ [] ≡ xs
 nothing_more [] = refl
@@ -176,7 +177,7 @@ committing job held before m k group pairs is_settled keeps over some own follow
           Some (kept_next k next),
           now,
           ap (λ x. Some x) proper.1
-              ∙ sym (stored_is (option_map state_of k) next (done_in job group) some),
+              ∙ sym (stored_some (option_map state_of k) next (done_in job group) some),
         );
         published = subst (λ (js : List Judged). PutsIn job held js before n)
             (sym (nothing_more (done_in job group))) left.published;

@@ -1,11 +1,14 @@
 -- What is kept, file by file: the same files keep the same, each ends a line, and the state is proper.
 use Rattle.std.proofs.Common.{◌≡◌, ℕ, Bool, true, false, cond, ◌||◌, List, [], ◌∷◌, ◌++◌, refl, sym, ap, subst, ◌∙◌}
 use Rattle.std.proofs.Common.{Some, None, codes, option_map}
+use Rattle.std.proofs.lemmas.Bool.{or_right}
+use Rattle.std.proofs.lemmas.Option.{same_Some}
 use Rattle.std.specs.declared.option.Option.{Option}
 use Rattle.std.specs.Str.{bytes_eq}
 use Rattle.gob_bytes.specs.Paths.{begins_with, state_name, delta_folder, delta_name, keeps_state}
 use Rattle.gob_bytes.specs.Words.{numbered_line}
-use Rattle.gob_bytes.proofs.Tables.{name_itself, same_name}
+use Rattle.gob_bytes.proofs.Tables.{same_name}
+use Rattle.gob_bytes.proofs.Paths.{is_state_file}
 use Rattle.gob_device.specs.Disk.{Files, contents_at}
 use Rattle.gob_ledger.specs.State.{State}
 use Rattle.gob_ledger.specs.Spelling.{Version, version_number, Proper, pipelines_text, totals_text, parts_text}
@@ -14,28 +17,21 @@ use Rattle.gob_ledger.specs.Delta.{Kept, KeepsAs, EachLeads, last_state, state_o
 use Rattle.gob_ledger.specs.Delta.{new_pipelines, changed_parts}
 use Rattle.gob_history.specs.Sound.{Stores}
 
-pub is_state : (job : List ℕ) → keeps_state job (state_name job) ≡ true
-is_state job = ap (λ b. b || begins_with (delta_folder job) (state_name job)) (name_itself (state_name job))
-
-or_true : (a b : Bool) → b ≡ true → (a || b) ≡ true
-or_true true b e = refl
-or_true false b e = e
-
 pub is_change : (job name : List ℕ) → begins_with (delta_folder job) name ≡ true → keeps_state job name ≡ true
-is_change job name e = or_true (bytes_eq name (state_name job)) _ e
+is_change job name e = or_right (bytes_eq name (state_name job)) _ e
 
 -- maps that read alike where the state is told keep the same
 pub keeps_alike : (job : List ℕ) (m n : Files) (k : Option Kept)
     → ((name : List ℕ) → keeps_state job name ≡ true → contents_at n name ≡ contents_at m name) → KeepsAs job m k
     → KeepsAs job n k
 keeps_alike job m n None same h = record {
-  base = same (state_name job) (is_state job) ∙ h.base;
+  base = same (state_name job) (is_state_file job) ∙ h.base;
   deltas = λ name p.
       same name (is_change job name p) ∙ h.deltas name p;
 }
 keeps_alike job m n (Some k) same h = (
   record {
-    base = same (state_name job) (is_state job) ∙ h.0.base;
+    base = same (state_name job) (is_state_file job) ∙ h.0.base;
     deltas =
         λ name p. same name (is_change job name p) ∙ h.0.deltas name p;
   },
@@ -64,12 +60,9 @@ unfolding delta_spelling
 delta_ends v s t = file_ends (codes "gobblin-delta") v t.run (new_pipelines v s t ++ totals_text t.totals
     ++ parts_text v (changed_parts s t))
 
-some_same : {A : Type 0} (x y : A) → Some x ≡ Some y → x ≡ y
-some_same x y e = cc
-
 here_or : (b : Bool) (text : List ℕ) (later : Option (List ℕ)) (c : List ℕ) → EndsLine text
     → (later ≡ Some c → EndsLine c) → cond b (Some text) later ≡ Some c → EndsLine c
-here_or true text later c here there e = subst EndsLine (some_same text c e) here
+here_or true text later c here there e = subst EndsLine (same_Some text c e) here
 here_or false text later c here there e = there e
 
 change_ends : (job : List ℕ) (v : Version) (s : State) (ts : List State) (name c : List ℕ)
@@ -95,7 +88,7 @@ stored_ends job m o name c h p e = by_kept h.0 h.1
       where
         by_name : (b : Bool) → bytes_eq name (state_name job) ≡ b → (b || begins_with (delta_folder job) name) ≡ true
             → EndsLine c
-        by_name true is p = subst EndsLine (some_same _ _ (sym
+        by_name true is p = subst EndsLine (same_Some _ _ (sym
             (ap (contents_at m) (same_name name (state_name job) is) ∙ g.0.base) ∙ e)) (state_ends k.version k.base)
         by_name false is p = change_ends job k.version k.base k.later name c (sym (g.0.deltas name p) ∙ e)
 
@@ -110,4 +103,4 @@ stored_proper job m s h = cases h.0 h.1 h.2
   where
     cases : (k : Option Kept) → KeepsAs job m k → option_map state_of k ≡ Some s → Proper s
     cases None g e = absurd (let no : None ≡ Some s = e in cc)
-    cases (Some k) g e = subst Proper (some_same _ _ e) (last_proper k.version k.base k.later g.1.base g.1.later)
+    cases (Some k) g e = subst Proper (same_Some _ _ e) (last_proper k.version k.base k.later g.1.base g.1.later)

@@ -6,9 +6,9 @@ use Rattle.std.specs.declared.option.Option.{Option}
 use Rattle.std.specs.List.{Contains, AllByRecursion, list_any, range_with_len, slice_get, zip, flat_map}
 use Rattle.std.specs.Str.{bytes_eq}
 use Rattle.std.proofs.lemmas.Bool.{and_from}
-use Rattle.gob_bytes.specs.Paths.{under}
 use Rattle.gob_bytes.specs.Tables.{at_name, names_of, IsInByteOrder}
 use Rattle.gob_bytes.proofs.Tables.{name_itself}
+use Rattle.gob_bytes.proofs.Paths.{cancel_under}
 use Rattle.gob_device.specs.Disk.{Files, File, clean, contents_at}
 use Rattle.gob_device.specs.Supply.{Held, bytes_from}
 use Rattle.gob_plan.specs.declared.units.Unit.{Unit as WorkUnit}
@@ -19,6 +19,7 @@ use Rattle.gob_meaning.specs.Laws.{IsRange}
 use Rattle.gob_meaning.specs.Results.{Verdict}
 use Rattle.gob_meaning.proofs.Apart.{names_apart}
 use Rattle.gob_meaning.proofs.Placed.{sent_is_placed}
+use Rattle.gob_meaning.proofs.Fits.{bare_fold, bare_counts}
 use Rattle.gob_ledger.specs.Marks.{Marks, Span, Done, done_spans}
 use Rattle.gob_ledger.specs.State.{State, marks_at, no_branch_counts, TiledState}
 use Rattle.gob_ledger.specs.Units.{span_of, next_of, fresh_in, UnitsFit}
@@ -46,7 +47,7 @@ use Rattle.gob_history.specs.Runs.{stored_where, next_of_group, after_group, aft
 use Rattle.gob_history.specs.Laws.{RunLeavesSound, AllDurable, BeginsWith, LeftAlong, GroupsStayDurable}
 use Rattle.gob_history.proofs.Bytes.{text_bytes}
 use Rattle.gob_history.proofs.Good.{verdicts_length, allowed_is_good, good_counts_are}
-use Rattle.gob_history.proofs.Rules.{same_fold, same_counts, made_with, made_without, few_branches}
+use Rattle.gob_history.proofs.Rules.{made_with, made_without, few_branches}
 use Rattle.gob_history.proofs.Kept.{stored_proper}
 use Rattle.gob_history.proofs.Kept.{stored_proper}
 use Rattle.gob_history.proofs.Composes.{in_either, in_front, in_back}
@@ -111,10 +112,6 @@ base_of job archive settled (Some s) tells stores sound = record {
 }
 
 -- ---- names
-
-pub cancel_under : (job x y : List ℕ) → under job x ≡ under job y → x ≡ y
-cancel_under [] x y e = cc
-cancel_under (b ∷ job) x y e = cancel_under job x y (let tail : under job x ≡ under job y = cc in tail)
 
 -- a done range of a tiled state with proper partitions has a name
 done_range : (s : State) → TiledState s → ((part : List ℕ) (m : Marks) → marks_at s part ≡ Some m → ProperPart part m)
@@ -553,9 +550,9 @@ run_groupable job archive held settled o failing tells agrees order stores sound
           record {
             bytes = same;
             counts = c.1 ∙ ap (λ x. Some x)
-                (sym (same_counts job.plan (unit_fold job.plan j.0.lo (bytes_of_range held j.0.part (span_of j.0))))
+                (sym (bare_counts job.plan (unit_fold job.plan j.0.lo (bytes_of_range held j.0.part (span_of j.0))))
                 ∙ (ap (counts_of (without_rules job.plan)) (sym
-                (same_fold job.plan j.0.lo (bytes_of_range held j.0.part (span_of j.0))))
+                (bare_fold job.plan j.0.lo (bytes_of_range held j.0.part (span_of j.0))))
                 ∙ ap (λ b. counts_of (without_rules job.plan) (unit_fold (without_rules job.plan) j.0.lo b)) same));
           };
     }

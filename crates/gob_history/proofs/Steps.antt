@@ -1,5 +1,5 @@
 -- What stands at a name once all steps of a sequence are done.
-use Rattle.std.proofs.Common.{◌≡◌, ⊎_elim, ℕ, cond, List, [], ◌∷◌, refl, ap, subst, ◌∙◌, is_some, Some, None}
+use Rattle.std.proofs.Common.{◌≡◌, ⊎_elim, ℕ, cond, List, [], ◌∷◌, ap, subst, ◌∙◌, is_some, Some, None}
 use Rattle.std.specs.List.{AllByRecursion, Contains}
 use Rattle.std.specs.Str.{bytes_eq}
 use Rattle.gob_bytes.proofs.Tables.{name_itself}
@@ -7,15 +7,9 @@ use Rattle.gob_device.specs.Disk.{Files, File, after_rename, after_remove}
 use Rattle.gob_recovery.specs.Sequence.{CommitStep, move, remove}
 use Rattle.gob_recovery.specs.Settle.{do_step, do_steps, moved_where}
 use Rattle.gob_recovery.proofs.Again.{Off, Differ, Apart, differ_turned, step_off}
+use Rattle.gob_recovery.proofs.Opened.{steps_still}
 use Rattle.gob_ledger.proofs.Changes.{all_member}
 use Rattle.gob_ledger.proofs.Members.{none_in, in_cases}
-
--- a name that is none of the steps' keeps its file
-pub off_stays : (ss : List CommitStep) (m : Files) (name : List ℕ) → AllByRecursion (λ t. Off t name) ss
-    → do_steps ss m name ≡ m name
-unfolding do_steps
-off_stays [] m name off = refl
-off_stays (s ∷ ss) m name off = off_stays ss (do_step s m) name off.1 ∙ step_off s m name off.0
 
 each_off : (P Q : CommitStep → Type 0) → ((t : CommitStep) → P t → Q t) → (ss : List CommitStep) → AllByRecursion P ss
     → AllByRecursion Q ss
@@ -39,8 +33,8 @@ pub moves_there : (ss : List CommitStep) (m : Files) (source target : List ℕ) 
 unfolding do_steps
 moves_there [] m source target f apart h here = none_in (move source target) h
 moves_there (s ∷ ss) m source target f apart h here = ⊎_elim
-    (λ e. off_stays ss (do_step s m) target (each_off (Differ (move source target)) (λ t. Off t target) (λ t d. d.1) ss
-    (subst (λ x. AllByRecursion (Differ x) ss) e apart.1))
+    (λ e. steps_still ss (do_step s m) target (each_off (Differ (move source target)) (λ t. Off t target)
+    (λ t d. d.1) ss (subst (λ x. AllByRecursion (Differ x) ss) e apart.1))
     ∙ (ap (λ x. do_step x m target) e ∙ moved_there source target m f here))
     (λ k. let d = differ_turned s (move source target) (all_member (Differ s) ss (move source target) apart.1 k) in
     moves_there ss (do_step s m) source target f apart.2 k (step_off s m source d.0 ∙ here))
@@ -52,7 +46,7 @@ pub removes_there : (ss : List CommitStep) (m : Files) (name : List ℕ) → Apa
 unfolding do_steps
 removes_there [] m name apart h = none_in (remove name) h
 removes_there (s ∷ ss) m name apart h = ⊎_elim
-    (λ e. off_stays ss (do_step s m) name (subst (λ x. AllByRecursion (Differ x) ss) e apart.1)
+    (λ e. steps_still ss (do_step s m) name (subst (λ x. AllByRecursion (Differ x) ss) e apart.1)
     ∙ (ap (λ x. do_step x m name) e ∙ removed_gone name m))
     (λ k. removes_there ss (do_step s m) name apart.2 k)
     (in_cases s ss (remove name) h)

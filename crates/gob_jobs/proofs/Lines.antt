@@ -133,10 +133,10 @@ all_small (b ∷ bs) =
 -- ---- a line
 
 -- a line without its end
-abbrev pub line_body : Setting → List ℕ
-line_body s = s.0 ++ 61 ∷ escape_of s.1
+abbrev pub setting_word : Setting → List ℕ
+setting_word s = s.0 ++ 61 ∷ escape_of s.1
 
-body_free : (s : Setting) → IsSetting s.0 s.1 → IsFree (nat_eq 10) (line_body s)
+body_free : (s : Setting) → IsSetting s.0 s.1 → IsFree (nat_eq 10) (setting_word s)
 body_free s is =
     let key : IsFree (nat_eq 10) s.0 = all_other is_key_byte 10 s.0 refl (key_bytes s.0 is.keyed) in
     let value : IsFree (nat_eq 10) (61 ∷ escape_of s.1) = all_other is_escaped_byte 10 (escape_of s.1) refl
@@ -149,12 +149,12 @@ unescaped_again value small =
     ap (λ v. cond (bytes_eq (escape_of v) (escape_of value)) (Some v) None) e
     ∙ ap (λ v. cond v (Some value) None) (name_itself (escape_of value))
 
-body_read : (s : Setting) → IsSetting s.0 s.1 → setting_of_pieces (pieces (nat_eq 61) (line_body s)) ≡ Some s
+body_read : (s : Setting) → IsSetting s.0 s.1 → setting_of_pieces (pieces (nat_eq 61) (setting_word s)) ≡ Some s
 body_read s is =
     let key : IsFree (nat_eq 61) s.0 = all_other is_key_byte 61 s.0 refl (key_bytes s.0 is.keyed) in
     let value : IsFree (nat_eq 61) (escape_of s.1) = all_other is_escaped_byte 61 (escape_of s.1) refl
     (escaped_bytes s.1 is.bytes) in
-    let two : pieces (nat_eq 61) (line_body s) ≡ s.0 ∷ escape_of s.1 ∷ [] =
+    let two : pieces (nat_eq 61) (setting_word s) ≡ s.0 ∷ escape_of s.1 ∷ [] =
     pieces_at (nat_eq 61) s.0 61 (escape_of s.1) key refl ∙ ap (λ ps. s.0 ∷ ps)
     (pieces_free (nat_eq 61) (escape_of s.1) value) in
     ap setting_of_pieces two
@@ -195,19 +195,19 @@ more_lines : (line : List ℕ) (rest : List (List ℕ)) → HasFirst rest
 more_lines line [] first = let no : [] ≡ first.0 ∷ first.1 = first.2 in cc
 more_lines line (x ∷ xs) first = refl
 
-line_and_more : (s : Setting) (rest : List ℕ) → setting_line s ++ rest ≡ line_body s ++ 10 ∷ rest
-line_and_more s rest = append_assoc (line_body s) (10 ∷ []) rest
+line_and_more : (s : Setting) (rest : List ℕ) → setting_line s ++ rest ≡ setting_word s ++ 10 ∷ rest
+line_and_more s rest = append_assoc (setting_word s) (10 ∷ []) rest
 
 read_back : (settings : List Setting) → AllByRecursion (λ s. IsSetting s.0 s.1) settings
     → settings_of_lines (pieces (nat_eq 10) (pipeline_text settings)) ≡ Some settings
 unfolding pieces
 read_back [] all = refl
 read_back (s ∷ ss) all =
-    let cut : pieces (nat_eq 10) (pipeline_text (s ∷ ss)) ≡ line_body s ∷ pieces (nat_eq 10) (pipeline_text ss) =
+    let cut : pieces (nat_eq 10) (pipeline_text (s ∷ ss)) ≡ setting_word s ∷ pieces (nat_eq 10) (pipeline_text ss) =
     ap (pieces (nat_eq 10)) (line_and_more s (pipeline_text ss))
-    ∙ pieces_at (nat_eq 10) (line_body s) 10 (pipeline_text ss) (body_free s all.0) refl in
+    ∙ pieces_at (nat_eq 10) (setting_word s) 10 (pipeline_text ss) (body_free s all.0) refl in
     ap settings_of_lines cut
-    ∙ (more_lines (line_body s) (pieces (nat_eq 10) (pipeline_text ss)) (pieces_first (nat_eq 10) (pipeline_text ss))
+    ∙ (more_lines (setting_word s) (pieces (nat_eq 10) (pipeline_text ss)) (pieces_first (nat_eq 10) (pipeline_text ss))
     ∙ (ap (λ o. both (λ t ts. t ∷ ts) o (settings_of_lines (pieces (nat_eq 10) (pipeline_text ss)))) (body_read s all.0)
     ∙ ap (λ o. both (λ t ts. t ∷ ts) (Some s) o) (read_back ss all.1)))
 
@@ -227,10 +227,10 @@ read_from (line ∷ next ∷ ls) settings is =
     settings is in
     let one = setting_from (pieces (nat_eq 61) line) p.0 p.2 in
     let more = read_from (next ∷ ls) p.1 p.3 in
-    let body : line ≡ line_body p.0 = sym (pieces_joined 61 line) ∙ ap (join_with_byte 61) one.1 in (
+    let body : line ≡ setting_word p.0 = sym (pieces_joined 61 line) ∙ ap (join_with_byte 61) one.1 in (
       subst (AllByRecursion (λ s. IsSetting s.0 s.1)) p.4 (one.0, more.0),
       ap (λ x. x ++ 10 ∷ join_with_byte 10 (next ∷ ls)) body
-          ∙ (ap (λ x. line_body p.0 ++ 10 ∷ x) more.1 ∙ (sym (line_and_more p.0 (pipeline_text p.1))
+          ∙ (ap (λ x. setting_word p.0 ++ 10 ∷ x) more.1 ∙ (sym (line_and_more p.0 (pipeline_text p.1))
           ∙ ap pipeline_text p.4)),
     )
 

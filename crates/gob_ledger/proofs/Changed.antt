@@ -1,11 +1,12 @@
 -- What the change to the next state writes over what is kept keeps that state behind it.
-use Rattle.std.proofs.Common.{◌≡◌, ◌≢◌, ◌⊎◌, inl, inr, ⊎_elim, ℕ, ◌+◌, ◌^◌, ◌<◌, Bool, true, false, cond, ◌||◌, nat_eq}
+use Rattle.std.proofs.Common.{◌≡◌, ◌≢◌, ◌⊎◌, inl, inr, ⊎_elim, ℕ, ◌+◌, ◌^◌, ◌<◌, Bool, true, false, cond, nat_eq}
 use Rattle.std.proofs.Common.{nat_le, List, [], ◌∷◌, ◌++◌, map, length, refl, sym, ap, subst, ◌∙◌, Some, None}
 use Rattle.std.proofs.Common.{option_map, arith}
 use Rattle.std.specs.List.{Contains}
 use Rattle.std.specs.Str.{bytes_eq}
 use Rattle.std.proofs.lemmas.Bool.{or_right, true≢false}
 use Rattle.gob_bytes.proofs.Tables.{name_itself, same_name, two_names}
+use Rattle.gob_bytes.proofs.Paths.{is_state_file}
 use Rattle.gob_bytes.specs.Paths.{begins_with, state_name, delta_folder, delta_name, keeps_state}
 use Rattle.gob_device.specs.Disk.{Files, contents_at}
 use Rattle.gob_ledger.specs.State.{State}
@@ -59,9 +60,6 @@ some_or_none job v s (t ∷ ts) name = cases (bytes_eq name (delta_name job t.ru
     cases false is (inr e) = inr (ap (λ b. cond b (Some (delta_spelling v s t)) (delta_at job v t ts name)) is ∙ e)
 
 -- ---- the files after the change
-
-is_state_file : (job : List ℕ) → keeps_state job (state_name job) ≡ true
-is_state_file job = ap (λ b. b || begins_with (delta_folder job) (state_name job)) (name_itself (state_name job))
 
 is_change_file : (job name : List ℕ) → begins_with (delta_folder job) name ≡ true → keeps_state job name ≡ true
 is_change_file job name e = or_right (bytes_eq name (state_name job)) (begins_with (delta_folder job) name) e

@@ -15,7 +15,7 @@ use Rattle.gob_ledger.specs.Marks.{Marks, Done, Span, times_covered, done_spans,
 use Rattle.gob_ledger.specs.State.{State, marks_at, TiledState}
 use Rattle.gob_ledger.specs.Spelling.{Small, SmallBranch, SmallCounts, ProperPart, Proper, Version, version_1}
 use Rattle.gob_ledger.specs.Spelling.{version_2, FitsVersion, ReadsAs, state_spelling, IsKeptPipeline}
-use Rattle.gob_jobs.specs.Pipelines.{is_key, IsSetting, setting_line}
+use Rattle.gob_jobs.specs.Pipelines.{is_key, IsSetting, setting_line, Setting}
 use Rattle.gob_ledger.specs.SpellingLaws.{WrittenReadsBack}
 use Rattle.gob_ledger.proofs.Deciding.{Decidable, like, both, then, refuted, always, same_number, lower, not_above}
 use Rattle.gob_ledger.proofs.Deciding.{is_true, same_text, is_less, every, distinct, each_member, each_below}
@@ -25,7 +25,6 @@ use Rattle.gob_ledger.proofs.Ranges.{times, covered-is, within}
 use Rattle.gob_ledger.proofs.ReadingSound.{CountIs, contents_are}
 use Rattle.gob_ledger.proofs.ReadingState.{state_told, state_back, state_pipelines, state_text_is, have_lines}
 use Rattle.gob_ledger.proofs.Reading.{contents_read}
-use Rattle.gob_ledger.proofs.ReadingWords.{Setting}
 use Rattle.gob_ledger.proofs.StateLines.{settings_in, settings_back, setting_lines_read}
 use Rattle.gob_ledger.proofs.WordLines.{WordLine, lines_text, lines_fill, word_lines}
 

@@ -1,6 +1,6 @@
 -- The names of changes: each below the folder of changes, in byte order as their numbers rise.
 use Rattle.std.proofs.Common.{◌≡◌, ◌⊎◌, inl, inr, ⊎_elim, ℕ, zero, suc, ◌+◌, ◌/◌, ◌%◌, ◌^◌, ◌<◌, true, false, cond}
-use Rattle.std.proofs.Common.{◌&&◌, nat_eq, List, [], ◌∷◌, ◌++◌, length, refl, sym, ap, subst, ◌∙◌, length-append}
+use Rattle.std.proofs.Common.{nat_eq, List, [], ◌∷◌, ◌++◌, length, refl, sym, ap, subst, ◌∙◌, length-append}
 use Rattle.std.proofs.Common.{codes, arith}
 use Rattle.std.specs.declared.cmp.Ordering.{Ordering}
 use Rattle.std.specs.declared.cmp.Ordering.TheVariants.{Less, Equal, Greater}
@@ -9,24 +9,16 @@ use Rattle.std.specs.Ordering.{nat_cmp, ordering_then}
 use Rattle.std.proofs.lemmas.Bool.{cases_order, eq-eqb, lt-ltb, le-ltb}
 use Rattle.gob_bytes.proofs.Forms.{offsets_one_form, length-padded_digits}
 use Rattle.gob_bytes.proofs.Tables.{less_apart, less_then, name_level, rising_tail}
+use Rattle.gob_bytes.proofs.Paths.{front_more, under_front}
 use Rattle.gob_bytes.specs.Digits.{offset, padded_digits}
-use Rattle.gob_bytes.specs.Paths.{begins_with, under, state_name, delta_folder, delta_name}
+use Rattle.gob_bytes.specs.Paths.{begins_with, state_name, delta_folder, delta_name}
 use Rattle.gob_bytes.specs.Tables.{name_cmp, IsInByteOrder}
 use Rattle.gob_ledger.proofs.Members.{none_in, first_in, later_in, in_cases}
 
 -- ---- below the folder
 
-begins_append : (x y : List ℕ) → begins_with x (x ++ y) ≡ true
-begins_append [] y = refl
-begins_append (b ∷ bs) y = ap (λ v. v && begins_with bs (bs ++ y)) (eq-eqb b b refl) ∙ begins_append bs y
-
 pub change_below : (job : List ℕ) (run : ℕ) → begins_with (delta_folder job) (delta_name job run) ≡ true
-change_below job run = begins_append (delta_folder job) (offset run)
-
-under_front : (job a b : List ℕ) → begins_with (under job a) (under job b) ≡ begins_with a b
-under_front [] a b = refl
-under_front (c ∷ job) a b =
-    ap (λ v. v && begins_with (under job a) (under job b)) (eq-eqb c c refl) ∙ under_front job a b
+change_below job run = front_more (delta_folder job) (offset run)
 
 pub state_not_below : (job : List ℕ) → begins_with (delta_folder job) (state_name job) ≡ false
 state_not_below job = under_front job (codes "delta/") (codes "state")

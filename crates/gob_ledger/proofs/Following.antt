@@ -28,8 +28,8 @@ use Rattle.gob_ledger.proofs.Cutting.{follow_above}
 use Rattle.gob_ledger.proofs.Properly.{adds_totals, sums_more, with-totals}
 use Rattle.gob_ledger.proofs.Ranges.{span_is}
 
-same_marks : (m : Marks) → MarksFollow m m
-same_marks m = record {
+pub follow_itself : (m : Marks) → MarksFollow m m
+follow_itself m = record {
   next = omega arith;
   finished = λ d h. h;
   owed = λ s h. inl h;
@@ -183,7 +183,7 @@ committed_follows s pipeline all keep (d ∷ ds) is tiled fit below some =
     let added = adds_follow s all start (with_tiled pipeline s tiled)
     (λ q. subst (λ t. AreAdjacentFrom (next_of t q) (fresh_in q (units_in all))) (sym parts) (fit.fresh q))
     (λ q. subst (MarksFollow (marks_or s q)) (sym (ap (λ o. unwrap_or o no_marks) (same q)))
-    (same_marks (marks_or s q)))
+    (follow_itself (marks_or s q)))
     (λ q m e. (m, same q ∙ e)) in
     let old : (j : Judged) → Contains (d ∷ ds) j → Contains (marks_or s j.0.part).owed (span_of j.0)
     ⊎ ((marks_or s j.0.part).next ≤ j.0.lo) = λ j h.

@@ -1,6 +1,7 @@
 -- A map whose changes are listed keeps one thing, or has a name to blame.
 use Rattle.std.proofs.Common.{◌≡◌, ◌⊎◌, inl, inr, ⊎_elim, ℕ, true, List, [], ◌∷◌, ◌++◌, refl, sym, ap, subst, ◌∙◌, Some}
 use Rattle.std.proofs.Common.{None, option_map, is_some}
+use Rattle.std.proofs.lemmas.Option.{same_Some}
 use Rattle.std.specs.declared.cmp.Ordering.TheVariants.{Less}
 use Rattle.std.specs.declared.option.Option.{Option}
 use Rattle.std.specs.List.{Contains}
@@ -20,7 +21,7 @@ use Rattle.gob_ledger.proofs.DecidingState.{state_or_none}
 use Rattle.gob_ledger.proofs.DeltaNames.{name_above, not_itself_less}
 use Rattle.gob_ledger.proofs.Members.{none_in, first_in, later_in, in_cases}
 use Rattle.gob_ledger.proofs.OneDamage.{some_contents}
-use Rattle.gob_ledger.proofs.OneState.{same_some, first_change, other_change}
+use Rattle.gob_ledger.proofs.OneState.{first_change, other_change}
 use Rattle.gob_ledger.proofs.ReadingChange.{one_change}
 
 -- ---- the state's file
@@ -117,7 +118,7 @@ next_or_stop : (job : List ℕ) (m : Files) (v : Version) (s : State) (name text
 next_or_stop job m v s name text proper holds = cases (change_or_none v s text proper)
   where
     here : (text' : List ℕ) → contents_at m name ≡ Some text' → text' ≡ text
-    here text' e = same_some text' text (sym e ∙ holds)
+    here text' e = same_Some text' text (sym e ∙ holds)
 
     by_name : (t : State) → ReadsAsChange v s text t → Decidable (name ≡ delta_name job t.run)
         → NextChange job m v s name ⊎ NoChange job m v s name

@@ -11,7 +11,7 @@ use Rattle.gob_ledger.specs.Next.{insert_done}
 use Rattle.gob_ledger.specs.Delta.{MarksFollow, same_done, changed_marks}
 use Rattle.gob_ledger.proofs.Members.{none_in, first_in, later_in, in_cases, in_filter, filter_in, in_map, map_in}
 use Rattle.gob_ledger.proofs.Ranges.{times, inside, within, order_from, order_members, order_filter, order_insert}
-use Rattle.gob_ledger.proofs.Ranges.{owed_below, owed_free, times_some, span_is, same_itself}
+use Rattle.gob_ledger.proofs.Ranges.{owed_below, owed_free, times_some, span_is, same_itself, spans}
 use Rattle.gob_ledger.proofs.Tiling.{in_insert, insert_in}
 
 -- ---- tests over lists
@@ -125,9 +125,6 @@ times_none at (s ∷ ss) apart =
 
 -- ---- done ranges
 
-abbrev pub spans_in : List Done → List Span
-spans_in ds = map (λ d. d.span) ds
-
 -- these ranges put among those, each at its place
 abbrev pub insert_all : List Done → List Done → List Done
 insert_all [] es = es
@@ -149,18 +146,18 @@ inserted_all (d ∷ ds) es x (inl h) = ⊎_elim
 inserted_all (d ∷ ds) es x (inr h) = insert_in d (insert_all ds es) x (inr (inserted_all ds es x (inr h)))
 
 -- members of one list in order, put together
-sorted_all : (all ds es : List Done) (from : ℕ) → InOrder 0 (spans_in all)
+sorted_all : (all ds es : List Done) (from : ℕ) → InOrder 0 (spans all)
     → ((x : Done) → Contains all x → (x.span.lo < x.span.hi))
-    → InOrder from (spans_in ds) → InOrder 0 (spans_in es) → ((x : Done) → Contains ds x → Contains all x)
+    → InOrder from (spans ds) → InOrder 0 (spans es) → ((x : Done) → Contains ds x → Contains all x)
     → ((x : Done) → Contains es x → Contains all x)
-    → ((x : Done) → Contains ds x → Contains es x → ⊥) → InOrder 0 (spans_in (insert_all ds es))
+    → ((x : Done) → Contains ds x → Contains es x → ⊥) → InOrder 0 (spans (insert_all ds es))
 sorted_all all [] es from order some od oe ind ine apart = oe
 sorted_all all (d ∷ ds) es from order some od oe ind ine apart =
     order_insert 0 (insert_all ds es) d
     (sorted_all all ds es d.span.hi order some od.2 oe (λ x h. ind x (later_in d ds x h)) ine
     (λ x h k. apart x (later_in d ds x h) k))
     (omega arith) od.1
-    (λ at h. times_none at (spans_in (insert_all ds es)) (λ s k c.
+    (λ at h. times_none at (spans (insert_all ds es)) (λ s k c.
     let r = in_map (λ (x : Done). x.span) (insert_all ds es) s k in
     clash at h r.0 r.1 (subst (λ t. has at t ≡ true) (sym r.2) c)))
   where
@@ -176,13 +173,13 @@ sorted_all all (d ∷ ds) es from order some od oe ind ine apart =
         apart e (subst (Contains (d ∷ ds)) same (first_in d ds d refl)) l)
         (all_inserted ds es e k)
 
-pub filter_order : (p : Done → Bool) (from : ℕ) (ds : List Done) → InOrder from (spans_in ds)
-    → InOrder from (spans_in (filter p ds))
+pub filter_order : (p : Done → Bool) (from : ℕ) (ds : List Done) → InOrder from (spans ds)
+    → InOrder from (spans (filter p ds))
 filter_order p from [] order = tt
 filter_order p from (d ∷ ds) order =
-    elim (p d) as (λ b. InOrder from (spans_in (cond b (d ∷ filter p ds) (filter p ds)))) [
+    elim (p d) as (λ b. InOrder from (spans (cond b (d ∷ filter p ds) (filter p ds)))) [
       | true ↦ (order.0, order.1, filter_order p d.span.hi ds order.2)
-      | false ↦ order_from from d.span.hi (spans_in (filter p ds))
+      | false ↦ order_from from d.span.hi (spans (filter p ds))
           (let low : from ≤ d.span.lo = order.0 in
           let some : d.span.lo < d.span.hi = order.1 in omega (arith, low, some))
           (filter_order p d.span.hi ds order.2)
@@ -216,7 +213,7 @@ abbrev pub merged : Marks → Marks → Marks
 merged before change = record {
   next = change.next;
   finished = insert_all change.finished before.finished;
-  owed = filter (λ s. not (list_any (same_span s) (spans_in change.finished))) before.owed ++ change.owed;
+  owed = filter (λ s. not (list_any (same_span s) (spans change.finished))) before.owed ++ change.owed;
 }
 
 abbrev pub is_new : Marks → Done → Bool
@@ -226,7 +223,7 @@ abbrev pub is_new_owed : Marks → Span → Bool
 is_new_owed b s = not (list_any (same_span s) b.owed)
 
 abbrev still_owed : Marks → Marks → Span → Bool
-still_owed b n s = not (list_any (same_span s) (spans_in (filter (is_new b) n.finished)))
+still_owed b n s = not (list_any (same_span s) (spans (filter (is_new b) n.finished)))
 
 -- a done range and an owed one don't begin at one offset
 pub starts_apart : (m : Marks) → Tiled m → (d : Done) (s : Span) → Contains m.finished d → Contains m.owed s
@@ -282,10 +279,10 @@ stays_owed b n tb follow s h =
     ⊎_elim (λ k. k)
     (λ d. absurd (⊎_elim
     (λ k.
-    let yes = span_any s (spans_in (filter (is_new b) n.finished))
-    (subst (Contains (spans_in (filter (is_new b) n.finished))) d.2
+    let yes = span_any s (spans (filter (is_new b) n.finished))
+    (subst (Contains (spans (filter (is_new b) n.finished))) d.2
     (map_in (λ (x : Done). x.span) (filter (is_new b) n.finished) d.0 k)) in
-    true≢false (sym yes ∙ not-true (list_any (same_span s) (spans_in (filter (is_new b) n.finished))) r.1))
+    true≢false (sym yes ∙ not-true (list_any (same_span s) (spans (filter (is_new b) n.finished))) r.1))
     (λ k. not_both b tb d.0 s k r.0 d.2)
     (old_or_new b n d.0 d.1)))
     (follow.owed s r.0)
@@ -301,20 +298,20 @@ owed_is_there : (b n : Marks) → Tiled n → (s : Span) → Contains n.owed s
 owed_is_there b n tn s h = ⊎_elim
     (λ e. Contains-append_left (filter (still_owed b n) b.owed) (filter (is_new_owed b) n.owed) s
     (filter_in (still_owed b n) b.owed s (any_span s b.owed e)
-    (not_from_false (list_any (same_span s) (spans_in (filter (is_new b) n.finished))) (not_done e))))
+    (not_from_false (list_any (same_span s) (spans (filter (is_new b) n.finished))) (not_done e))))
     (λ e. Contains-append_right (filter (still_owed b n) b.owed) (filter (is_new_owed b) n.owed) s
     (filter_in (is_new_owed b) n.owed s h (not_from_false (list_any (same_span s) b.owed) e)))
     (cases_Bool (list_any (same_span s) b.owed))
   where
     not_done : list_any (same_span s) b.owed ≡ true
-        → list_any (same_span s) (spans_in (filter (is_new b) n.finished)) ≡ false
+        → list_any (same_span s) (spans (filter (is_new b) n.finished)) ≡ false
     not_done e = ⊎_elim
         (λ f. absurd (
         let r = in_map (λ (x : Done). x.span) (filter (is_new b) n.finished) s
-        (any_span s (spans_in (filter (is_new b) n.finished)) f) in
+        (any_span s (spans (filter (is_new b) n.finished)) f) in
         not_both n tn r.0 s (new_parts b n r.0 r.1).0 h r.2))
         (λ f. f)
-        (cases_Bool (list_any (same_span s) (spans_in (filter (is_new b) n.finished))))
+        (cases_Bool (list_any (same_span s) (spans (filter (is_new b) n.finished))))
 
 merged_owed : (b n : Marks) → Tiled b → Tiled n → MarksFollow b n
     → filter (still_owed b n) b.owed ++ filter (is_new_owed b) n.owed ≡ n.owed
@@ -378,7 +375,7 @@ unchanged b n tb tn follow none =
     let done : b.finished ≡ n.finished =
     sym (ap (λ ds. insert_all ds b.finished) fresh) ∙ merged_done b n tb tn follow in
     let rest : filter (still_owed b n) b.owed ≡ b.owed =
-    filter_all (still_owed b n) b.owed (λ s. ap (λ ds. not (list_any (same_span s) (spans_in ds))) fresh) in
+    filter_all (still_owed b n) b.owed (λ s. ap (λ ds. not (list_any (same_span s) (spans ds))) fresh) in
     let owed : b.owed ≡ n.owed =
     sym (append-nil b.owed) ∙ sym (λ i. rest i ++ owing i) ∙ merged_owed b n tb tn follow in
     let next = next_of_ranges b n tb tn done owed in

@@ -1,6 +1,7 @@
 -- A damaged map keeps nothing that can be read, and one name is to blame.
 use Rattle.std.proofs.Common.{◌≡◌, ⊎_elim, ℕ, Bool, true, false, cond, List, [], ◌∷◌, ◌++◌, refl, sym, ap, subst, ◌∙◌}
 use Rattle.std.proofs.Common.{Some, None, option_map}
+use Rattle.std.proofs.lemmas.Option.{same_Some}
 use Rattle.std.specs.declared.cmp.Ordering.TheVariants.{Less}
 use Rattle.std.specs.declared.option.Option.{Option}
 use Rattle.std.specs.List.{Contains}
@@ -19,7 +20,7 @@ use Rattle.gob_ledger.proofs.Members.{none_in, first_in, later_in, in_cases}
 use Rattle.gob_ledger.proofs.DeltaNames.{change_below, change_order, name_above, not_itself_less, same_names}
 use Rattle.gob_ledger.proofs.ReadingState.{one_spelling}
 use Rattle.gob_ledger.proofs.ReadingChange.{one_change}
-use Rattle.gob_ledger.proofs.OneState.{same_some, first_change, other_change, runs_rise, named_by_one, own_name}
+use Rattle.gob_ledger.proofs.OneState.{first_change, other_change, runs_rise, named_by_one, own_name}
 
 -- ---- one name is to blame
 
@@ -58,7 +59,7 @@ one_stop job m v s t u (n ∷ xs) (k ∷ ys) xs' ys' a b proper x y e =
     let r = x.leads in
     let q = y.leads in
     let name : n ≡ k = heads_are n k (xs ++ a ∷ xs') (ys ++ b ∷ ys') e in
-    let text : r.1 ≡ q.1 = same_some r.1 q.1 (sym r.3 ∙ ap (contents_at m) name ∙ q.3) in
+    let text : r.1 ≡ q.1 = same_Some r.1 q.1 (sym r.3 ∙ ap (contents_at m) name ∙ q.3) in
     let same : r.0 ≡ q.0 =
     one_change v s r.1 r.0 q.0 proper r.4 (subst (λ z. ReadsAsChange v s z q.0) (sym text) q.4) in
     one_stop job m v r.0 t u xs ys xs' ys' a b r.4.leads.proper
@@ -155,7 +156,7 @@ no_stop job m v s t (u ∷ us) (n ∷ before) after name proper each tells stop 
     let names = before ++ name ∷ after in
     let is = first_is_next job m v s u us n names each tells in
     let text : r.1 ≡ delta_spelling v s u =
-    same_some r.1 (delta_spelling v s u) (sym r.3 ∙ next_text job m v s u us n names tells is) in
+    same_Some r.1 (delta_spelling v s u) (sym r.3 ∙ next_text job m v s u us n names tells is) in
     let same : r.0 ≡ u = one_change v s r.1 r.0 u proper r.4 (record { spelled = text; leads = each.0 }) in
     no_stop job m v u t us before after name each.0.proper each.1
     (tells_on job m v s u us n names each tells is)
@@ -210,7 +211,7 @@ pub damaged_keeps_nothing : (job : List ℕ) (m : Files) (name : List ℕ) → S
 damaged_keeps_nothing job m name (base bytes at none) None h = let never : None ≡ Some bytes = sym h.base ∙ at in cc
 damaged_keeps_nothing job m name (base bytes at none) (Some k) h =
     none k.version k.base
-    (record { spelled = same_some bytes _ (sym at ∙ h.0.base); fits = h.1.fits; proper = h.1.base })
+    (record { spelled = same_Some bytes _ (sym at ∙ h.0.base); fits = h.1.fits; proper = h.1.base })
 damaged_keeps_nothing job m name (baseless first names at listing) None h =
     let is = (listing.exact name).0 (first_in name names name refl) in
     let some = some_contents m name is.1 in
@@ -220,7 +221,7 @@ damaged_keeps_nothing job m name (baseless first names at listing) (Some k) h =
 damaged_keeps_nothing job m name (change v bytes s t before after last at reads listing leads none) None h =
     let never : None ≡ Some bytes = sym h.base ∙ at in cc
 damaged_keeps_nothing job m name (change v bytes s t before after last at reads listing leads none) (Some k) h =
-    let text : bytes ≡ state_spelling k.version k.base = same_some bytes _ (sym at ∙ h.0.base) in
+    let text : bytes ≡ state_spelling k.version k.base = same_Some bytes _ (sym at ∙ h.0.base) in
     let own : ReadsAs k.version bytes k.base = record { spelled = text; fits = h.1.fits; proper = h.1.base } in
     let one = one_spelling v k.version bytes s k.base reads own in
     no_stop job m k.version k.base t k.later before after name h.1.base h.1.later
@@ -235,7 +236,7 @@ one_blamed job m a b (base bytes at none) (base bytes' at' none') = refl
 one_blamed job m a b (base bytes at none) (baseless first names at' listing) =
     absurd (let never : None ≡ Some bytes = sym at' ∙ at in cc)
 one_blamed job m a b (base bytes at none) (change v bytes' s t before after last at' reads listing leads none') =
-    absurd (none v s (subst (λ x. ReadsAs v x s) (same_some bytes' bytes (sym at' ∙ at)) reads))
+    absurd (none v s (subst (λ x. ReadsAs v x s) (same_Some bytes' bytes (sym at' ∙ at)) reads))
 one_blamed job m a b (baseless first names at listing) (base bytes at' none) =
     absurd (let never : None ≡ Some bytes = sym at ∙ at' in cc)
 one_blamed job m a b (baseless first names at listing) (baseless first' names' at' listing') =
@@ -244,13 +245,13 @@ one_blamed job m a b (baseless first names at listing)
     (change v bytes s t before after last at' reads listing' leads none) =
     absurd (let never : None ≡ Some bytes = sym at ∙ at' in cc)
 one_blamed job m a b (change v bytes s t before after last at reads listing leads none) (base bytes' at' none') =
-    absurd (none' v s (subst (λ x. ReadsAs v x s) (same_some bytes bytes' (sym at ∙ at')) reads))
+    absurd (none' v s (subst (λ x. ReadsAs v x s) (same_Some bytes bytes' (sym at ∙ at')) reads))
 one_blamed job m a b (change v bytes s t before after last at reads listing leads none)
     (baseless first names at' listing') =
     absurd (let never : None ≡ Some bytes = sym at' ∙ at in cc)
 one_blamed job m a b (change v bytes s t before after last at reads listing leads none)
     (change v' bytes' s' t' before' after' last' at' reads' listing' leads' none') =
-    let text : bytes ≡ bytes' = same_some bytes bytes' (sym at ∙ at') in
+    let text : bytes ≡ bytes' = same_Some bytes bytes' (sym at ∙ at') in
     let one = one_spelling v v' bytes s s' reads (subst (λ x. ReadsAs v' x s') (sym text) reads') in
     one_stop job m v' s' t t' before before' after after' a b reads'.proper
     (record {

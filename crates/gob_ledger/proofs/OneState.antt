@@ -1,6 +1,7 @@
 -- A map keeps one thing; where it is damaged it keeps nothing, and one name is to blame.
 use Rattle.std.proofs.Common.{◌≡◌, ◌≢◌, ⊎_elim, ℕ, ◌^◌, ◌<◌, Bool, true, false, cond, List, [], ◌∷◌, refl, sym, ap}
 use Rattle.std.proofs.Common.{subst, ◌∙◌, Some, None, arith}
+use Rattle.std.proofs.lemmas.Option.{same_Some}
 use Rattle.std.specs.declared.option.Option.{Option}
 use Rattle.std.specs.List.{Contains}
 use Rattle.std.specs.Str.{bytes_eq}
@@ -14,9 +15,6 @@ use Rattle.gob_ledger.proofs.Members.{none_in, first_in, later_in, in_cases}
 use Rattle.gob_ledger.proofs.DeltaNames.{change_below, same_number_named}
 use Rattle.gob_ledger.proofs.ReadingState.{one_spelling}
 use Rattle.gob_ledger.proofs.ReadingChange.{one_change}
-
-pub same_some : {A : Type 0} (x y : A) → Some x ≡ Some y → x ≡ y
-same_some x y e = cc
 
 -- ---- the texts of changes, by name
 
@@ -96,7 +94,7 @@ same_later job v s (t ∷ ts) (u ∷ us) proper et eu alike =
     let there : delta_at job v s (u ∷ us) (delta_name job t.run) ≡ Some (delta_spelling v s u) =
     ap (λ n. delta_at job v s (u ∷ us) (delta_name job n)) run ∙ first_change job v s u us in
     let text : delta_spelling v s t ≡ delta_spelling v s u =
-    same_some _ _ (sym (first_change job v s t ts) ∙ here ∙ there) in
+    same_Some _ _ (sym (first_change job v s t ts) ∙ here ∙ there) in
     let same : t ≡ u =
     one_change v s (delta_spelling v s t) t u proper (record { spelled = refl; leads = et.0 })
     (record { spelled = text; leads = eu.0 }) in
@@ -137,7 +135,7 @@ keeps_one job m (Some k) None h g =
     absurd (let never : None ≡ Some (state_spelling k.version k.base) = sym g.base ∙ h.0.base in cc)
 keeps_one job m (Some k) (Some l) h g =
     let text : state_spelling k.version k.base ≡ state_spelling l.version l.base =
-    same_some _ _ (sym h.0.base ∙ g.0.base) in
+    same_Some _ _ (sym h.0.base ∙ g.0.base) in
     let one = one_spelling k.version l.version (state_spelling k.version k.base) k.base l.base
     (record { spelled = refl; fits = h.1.fits; proper = h.1.base })
     (record { spelled = text; fits = g.1.fits; proper = g.1.base }) in

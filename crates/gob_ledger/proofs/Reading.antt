@@ -8,6 +8,8 @@ use Rattle.std.specs.Fmt.{decimal}
 use Rattle.std.specs.Str.{bytes_eq}
 use Rattle.std.proofs.lemmas.Bool.{cond-true, le-leb, lt-ltb, eq-eqb}
 use Rattle.std.proofs.lemmas.List.Elements.{recursion_from_All}
+use Rattle.std.proofs.lemmas.List.{length-map}
+use Rattle.std.proofs.Math.Seq.{drop-append_seam}
 use Rattle.gob_bytes.specs.Escapes.{escape_of}
 use Rattle.gob_bytes.specs.Tables.{Table}
 use Rattle.gob_plan.specs.declared.units.BranchCounts.{BranchCounts}
@@ -17,16 +19,16 @@ use Rattle.gob_ledger.specs.State.{State}
 use Rattle.gob_ledger.specs.Next.{no_marks}
 use Rattle.gob_ledger.specs.Spelling.{Small, SmallBranch, SmallCounts, Version, version_1, version_2, version_number}
 use Rattle.gob_ledger.specs.Spelling.{line_count}
-use Rattle.gob_jobs.specs.Pipelines.{IsSetting, setting_line}
+use Rattle.gob_jobs.specs.Pipelines.{IsSetting, setting_line, Setting}
 use Rattle.gob_ledger.proofs.WordLines.{WordLine, IsWord, AreWords, lines_text}
-use Rattle.gob_ledger.proofs.ReadingWords.{Setting, number_line, numbers_after, numbers_line_read, bytes_read}
+use Rattle.gob_ledger.proofs.ReadingWords.{number_line, numbers_after, numbers_line_read, bytes_read}
 use Rattle.gob_ledger.proofs.ReadingWords.{escaped_read, numbers_read, numbers_back}
 use Rattle.gob_ledger.proofs.Members.{map_in}
 use Rattle.gob_ledger.proofs.Ranges.{order_members}
 use Rattle.gob_ledger.proofs.StateLines.{from_members, setting_words, settings_in, settings_back, HasLines}
 use Rattle.gob_ledger.proofs.StateLines.{pipeline_lines, lines_of, pipelines_lines, branch_words, totals_lines, Range}
 use Rattle.gob_ledger.proofs.StateLines.{range_words, put_range, mixed, mixed_each, rises_from, part_lines, RangeFits}
-use Rattle.gob_ledger.proofs.StateLines.{PartFits, mixed_fits, end_line, contents_lines, ContentsFit}
+use Rattle.gob_ledger.proofs.StateLines.{PartFits, mixed_fits, end_line, contents_lines, ContentsFit, version_small}
 
 -- what the first lines read as, and the lines behind them
 abbrev pub Read : Type 0 → Type 0
@@ -84,27 +86,19 @@ take_front : (xs ys : List WordLine) → take (length xs) (xs ++ ys) ≡ xs
 take_front [] ys = refl
 take_front (x ∷ xs) ys = ap (λ (zs : List WordLine). x ∷ zs) (take_front xs ys)
 
-drop_front : (xs ys : List WordLine) → drop (length xs) (xs ++ ys) ≡ ys
-drop_front [] ys = refl
-drop_front (x ∷ xs) ys = drop_front xs ys
-
 front_within : (xs ys : List WordLine) → length xs ≤ length (xs ++ ys)
 front_within [] ys = omega arith
 front_within (x ∷ xs) ys = let r = front_within xs ys in omega (arith, r)
-
-length_map_words : (ss : List Setting) → length (map setting_words ss) ≡ length ss
-length_map_words [] = refl
-length_map_words (s ∷ ss) = ap suc (length_map_words ss)
 
 text_read : (ss : List Setting) (ys : List WordLine) → All (λ (s : Setting). IsSetting s.0 s.1) ss
     → text_of_lines (length ss) (map setting_words ss ++ ys) ≡ Some (flat_map setting_line ss, ys)
 text_read ss ys all =
     let xs : List WordLine = map setting_words ss in
-    let n : length xs ≡ length ss = length_map_words ss in
+    let n : length xs ≡ length ss = length-map ss setting_words in
     ap (λ k. text_of_lines k (xs ++ ys)) (sym n)
     ∙ cond-true (nat_le (length xs) (length (xs ++ ys))) _ None
     (le-leb (length xs) (length (xs ++ ys)) (front_within xs ys))
-    ∙ (λ i. text_of (settings_in (take_front xs ys i)) (drop_front xs ys i))
+    ∙ (λ i. text_of (settings_in (take_front xs ys i)) (drop-append_seam xs ys i))
     ∙ ap (λ o. text_of o ys) (settings_back ss all)
 
 pipeline_back : (p : List ℕ) (ls : List WordLine) → HasLines p → pipeline_read (pipeline_lines p ++ ls) ≡ Some (p, ls)
@@ -354,7 +348,7 @@ gathered_put d (inr s ∷ rs) above = elim (nat_lt d.span.lo s.lo) as
     ]
 
 -- mixed ranges are parted again
-gathered_mixed : (from : ℕ) (ds : List Done) (os : List Span) → InOrder from (map (λ (d : Done). d.span) ds)
+pub gathered_mixed : (from : ℕ) (ds : List Done) (os : List Span) → InOrder from (map (λ (d : Done). d.span) ds)
     → gathered (mixed ds os) ≡ record { next = 0; finished = ds; owed = os }
 gathered_mixed from [] os order = each os
   where
@@ -432,10 +426,6 @@ body_back v how c many fit =
     (totals_lines_read c.totals parts fit.totals fit.branches (no_branch_in_parts v c.parts))
     ∙ ap (option_map (state_with c.run c.pipelines c.totals)) (parts_lines_read v c.parts fit.parts)
 
-version_fits : (v : Version) → Small (version_number v)
-version_fits version_1 = omega arith
-version_fits version_2 = omega arith
-
 -- lines that were written are read
 pub contents_back : (kind : List ℕ) (v : Version) (how : Option ℕ) (c : State) → AsMany how c.pipelines
     → ContentsFit v c
@@ -445,7 +435,7 @@ contents_back kind v how c many fit =
     pipelines_lines how
     c.pipelines ++ (totals_lines c.totals ++ (flat_map (part_lines v) c.parts ++ end_line ∷ [])) in
     let run : List WordLine = number_line (codes "run") (c.run ∷ []) ∷ body in
-    ap (λ r. and_then r (versioned v how)) (number_line_read kind (version_number v) run (version_fits v))
+    ap (λ r. and_then r (versioned v how)) (number_line_read kind (version_number v) run (version_small v))
     ∙ ap (λ b. cond b (and_then (number_after (codes "run") run) (body_read v how)) None)
     (eq-eqb (version_number v) (version_number v) refl)
     ∙ ap (λ r. and_then r (body_read v how)) (number_line_read (codes "run") c.run body fit.run)

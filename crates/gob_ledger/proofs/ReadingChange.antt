@@ -8,6 +8,7 @@ use Rattle.std.specs.List.{AllByRecursion, Contains, filter, flat_map}
 use Rattle.std.specs.Str.{bytes_eq}
 use Rattle.std.proofs.lemmas.Bool.{ltb-false}
 use Rattle.std.proofs.lemmas.List.Elements.{recursion_from_All, All-drop}
+use Rattle.std.proofs.Math.Seq.{drop-append_seam}
 use Rattle.gob_bytes.proofs.Tables.{same_name, name_itself, none_below, rising_tail, rising-with_name, at-with_name}
 use Rattle.gob_bytes.proofs.Tables.{same_tables, at_from_member}
 use Rattle.gob_bytes.specs.Tables.{Table, at_name, with_name, names_of, IsInByteOrder}
@@ -140,7 +141,7 @@ follows_at : (s t : State) (q : List ℕ) (n : Marks) → StateFollows s t → m
 follows_at s t q n follow e =
     subst (MarksFollow (marks_or_none s q)) (ap (λ o. unwrap_or o no_marks) e) (follow.marks q)
 
-not_positive : (k : ℕ) → nat_lt 0 k ≡ false → k ≡ 0
+pub not_positive : (k : ℕ) → nat_lt 0 k ≡ false → k ≡ 0
 not_positive k e = let z : k ≤ 0 = ltb-false 0 k e in omega (arith, z)
 
 -- a partition without a change was there, with the same marks
@@ -192,14 +193,10 @@ behind_itself : (ps : List (List ℕ)) → ps ++ drop (length ps) ps ≡ ps
 behind_itself [] = refl
 behind_itself (p ∷ ps) = ap (λ (qs : List (List ℕ)). p ∷ qs) (behind_itself ps)
 
-behind_front : (ps qs : List (List ℕ)) → drop (length ps) (ps ++ qs) ≡ qs
-behind_front [] qs = refl
-behind_front (p ∷ ps) qs = behind_front ps qs
-
 pipelines_again : (ps qs : List (List ℕ)) → OneMore ps qs → ps ++ drop (length ps) qs ≡ qs
 pipelines_again ps qs (inl e) = ap (λ x. ps ++ drop (length ps) x) e ∙ behind_itself ps ∙ sym e
 pipelines_again ps qs (inr (p, e)) =
-    ap (λ x. ps ++ drop (length ps) x) e ∙ ap (λ x. ps ++ x) (behind_front ps (p ∷ [])) ∙ sym e
+    ap (λ x. ps ++ drop (length ps) x) e ∙ ap (λ x. ps ++ x) (drop-append_seam ps (p ∷ [])) ∙ sym e
 
 pub change_leads : (s t : State) → Proper s → Proper t → StateFollows s t → with_change s (change_contents s t) ≡ t
 change_leads s t ps pt follow =
@@ -273,7 +270,7 @@ change_pipelines version_1 = Some 0
 change_pipelines version_2 = None
 
 none_new : (s t : State) → t.pipelines ≡ s.pipelines → drop (length s.pipelines) t.pipelines ≡ []
-none_new s t e = ap (drop (length s.pipelines)) (e ∙ sym (append-nil s.pipelines)) ∙ behind_front s.pipelines []
+none_new s t e = ap (drop (length s.pipelines)) (e ∙ sym (append-nil s.pipelines)) ∙ drop-append_seam s.pipelines []
 
 change_many : (v : Version) (s t : State) → LeadsTo v s t
     → AsMany (change_pipelines v) (drop (length s.pipelines) t.pipelines)

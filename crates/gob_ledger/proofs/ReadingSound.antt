@@ -8,6 +8,7 @@ use Rattle.std.specs.Fmt.{decimal}
 use Rattle.std.specs.Str.{bytes_eq}
 use Rattle.std.proofs.lemmas.Bool.{and_parts, cond_both, cond-true, eqb-true, le-ltb, leb-true, lt-ltb}
 use Rattle.std.proofs.lemmas.List.Elements.{All-from_recursion}
+use Rattle.std.proofs.lemmas.List.{length-map}
 use Rattle.gob_bytes.proofs.Tables.{same_name}
 use Rattle.gob_bytes.specs.Escapes.{escape_of}
 use Rattle.gob_bytes.specs.Tables.{Table}
@@ -17,8 +18,8 @@ use Rattle.gob_ledger.specs.Marks.{Marks, Done, Span}
 use Rattle.gob_ledger.specs.State.{State}
 use Rattle.gob_ledger.specs.Spelling.{IsKeptPipeline, Small, SmallBranch, SmallCounts, Version, version_1, version_2}
 use Rattle.gob_ledger.specs.Spelling.{version_number, line_count}
-use Rattle.gob_jobs.specs.Pipelines.{IsSetting, setting_line}
-use Rattle.gob_ledger.proofs.ReadingWords.{Setting, number_line, numbers_after, numbers_line_is, bytes_read, escaped_is}
+use Rattle.gob_jobs.specs.Pipelines.{IsSetting, setting_line, Setting}
+use Rattle.gob_ledger.proofs.ReadingWords.{number_line, numbers_after, numbers_line_is, bytes_read, escaped_is}
 use Rattle.gob_ledger.proofs.ReadingWords.{numbers_read, numbers_are}
 use Rattle.gob_ledger.proofs.StateLines.{setting_words, settings_in, settings_are, no_words, settings_counted}
 use Rattle.gob_ledger.proofs.StateLines.{lines_of_settings, pipeline_lines, lines_of, pipelines_lines, branch_words}
@@ -69,10 +70,6 @@ length_taken zero ls within = refl
 length_taken (suc n) [] within = absurd (omega (arith, within))
 length_taken (suc n) (l ∷ ls) within = ap suc (length_taken n ls (omega (arith, within)))
 
-settings_count : (ss : List Setting) → length (map setting_words ss) ≡ length ss
-settings_count [] = refl
-settings_count (s ∷ ss) = ap suc (settings_count ss)
-
 -- so many lines are a pipeline's
 record IsPipelineOf (n : ℕ) (ls : List WordLine) (p : List ℕ) (rest : List WordLine) : Type 0 where
   whole : ls ≡ lines_of p ++ rest
@@ -88,7 +85,7 @@ settings_text_is n ls p rest (Some ss) small within read e =
     let text : flat_map setting_line ss ≡ p = ap (λ (x : List ℕ × List WordLine). x.0) pair in
     let behind : drop n ls ≡ rest = ap (λ (x : List ℕ × List WordLine). x.1) pair in
     let r = settings_are (take n ls) ss read in
-    let number : length ss ≡ n = sym (settings_count ss) ∙ sym (ap length r.0) ∙ length_taken n ls within in
+    let number : length ss ≡ n = sym (length-map ss setting_words) ∙ sym (ap length r.0) ∙ length_taken n ls within in
     let all = All-from_recursion (λ (s : Setting). IsSetting s.0 s.1) ss r.1 in
     let lines : map setting_words ss ≡ lines_of p = sym (ap lines_of (sym text) ∙ lines_of_settings ss all) in
     record {

@@ -17,7 +17,8 @@ use Rattle.gob_bytes.specs.Numbers.{number_read}
 use Rattle.gob_bytes.proofs.Forms.{one_form, unescaped, own}
 use Rattle.gob_bytes.proofs.Tables.{name_itself, same_name}
 use Rattle.gob_ledger.specs.Spelling.{Small}
-use Rattle.gob_jobs.specs.Pipelines.{is_key, IsSetting}
+use Rattle.gob_jobs.specs.Pipelines.{is_key, IsSetting, Setting}
+use Rattle.gob_jobs.proofs.Lines.{setting_word}
 use Rattle.gob_ledger.proofs.WordLines.{WordLine, IsWord, AreWords}
 
 -- ---- bytes of words
@@ -203,12 +204,6 @@ escaped_is w name =
     (λ t e. absurd (let never : None ≡ Some name = e in cc))
 
 -- ---- settings
-
-abbrev pub Setting : Type 0
-Setting = List ℕ × List ℕ
-
-abbrev pub setting_word : Setting → List ℕ
-setting_word s = s.0 ++ 61 ∷ escape_of s.1
 
 key_is : (k : List ℕ) → is_key k ≡ true → list_all (λ c. is_letter c || is_digit c || nat_eq c 46) k ≡ true
 key_is [] e = refl

@@ -177,9 +177,9 @@ no_or : (a b : Bool) → a ≡ false → (a || b) ≡ b
 no_or true b e = let no : true ≡ false = e in cc
 no_or false b e = refl
 
-or_no : (a b : Bool) → b ≡ false → (a || b) ≡ a
-or_no true b e = refl
-or_no false b e = e
+pub or_none : (a b : Bool) → b ≡ false → (a || b) ≡ a
+or_none true b e = refl
+or_none false b e = e
 
 -- a unit may fail again exactly where one more failure isn't too many
 may_again : (f retries : ℕ) → nat_lt f retries ≡ not (nat_lt retries (f + 1))
@@ -231,7 +231,7 @@ left_is job false turns u left = pulls (slice_get u.own (length (attempt_pulls u
         (ap (λ b. f + cond b 1 0) passed ∙ (let zero_more : f + 0 ≡ f = omega arith in zero_more)) in
         let after : behind job.max_retries u (before ++ p ∷ []) f
         ≡ cond (not (nat_le (length u.own) (n + 1))) (record w { left = drop (n + 1) u.own } ∷ []) [] =
-        λ i. cond (not (or_no (nat_le (length u.own) (long i)) (nat_lt job.max_retries f) few i))
+        λ i. cond (not (or_none (nat_le (length u.own) (long i)) (nat_lt job.max_retries f) few i))
         (record { unit = u.unit; all = u.own; left = drop (long i) u.own; failures = f } ∷ []) [] in
         pull_leaves w u.own n left.more
         ∙ (sym after

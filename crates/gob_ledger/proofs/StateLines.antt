@@ -21,11 +21,12 @@ use Rattle.gob_ledger.specs.Spelling.{Small, SmallBranch, SmallCounts, Version, 
 use Rattle.gob_ledger.specs.Spelling.{branch_line, Placed, put_line, put_lines, made_by, done_line, open_line}
 use Rattle.gob_ledger.specs.Spelling.{range_lines, part_text, parts_text, line_count, pipeline_part, totals_text}
 use Rattle.gob_ledger.specs.Spelling.{file_text, IsKeptPipeline}
-use Rattle.gob_jobs.specs.Pipelines.{IsSetting, setting_line}
+use Rattle.gob_jobs.specs.Pipelines.{IsSetting, setting_line, Setting}
+use Rattle.gob_jobs.proofs.Lines.{setting_word}
 use Rattle.gob_ledger.proofs.WordLines.{WordLine, IsWord, AreWords, line_bytes, lines_text, word_lines, lines_read}
 use Rattle.gob_ledger.proofs.Members.{first_in, later_in, map_in}
 use Rattle.gob_ledger.proofs.Ranges.{order_from, order_members}
-use Rattle.gob_ledger.proofs.ReadingWords.{Setting, setting_word, setting_is_word, setting_read, setting_word_read}
+use Rattle.gob_ledger.proofs.ReadingWords.{setting_is_word, setting_read, setting_word_read}
 use Rattle.gob_ledger.proofs.ReadingWords.{setting_word_is, escaped_is_word, decimal_is_word, number_line}
 use Rattle.gob_ledger.proofs.ReadingWords.{number_line_words}
 
@@ -493,7 +494,7 @@ contents_text kind v how c have =
     ∙ regrouped first run (counted_text how c.pipelines) (totals_text c.totals) (parts_text v c.parts) (codes "end")
     (10 ∷ [])
 
-version_small : (v : Version) → Small (version_number v)
+pub version_small : (v : Version) → Small (version_number v)
 version_small version_1 = omega arith
 version_small version_2 = omega arith
 

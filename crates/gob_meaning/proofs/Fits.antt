@@ -85,11 +85,12 @@ bare_fits plan fits =
       few_policies = refl;
     })
 
-bare_fold : (plan : Plan) (lo : ℕ) (bytes : List ℕ) → unit_fold (without_rules plan) lo bytes ≡ unit_fold plan lo bytes
+pub bare_fold : (plan : Plan) (lo : ℕ) (bytes : List ℕ)
+    → unit_fold (without_rules plan) lo bytes ≡ unit_fold plan lo bytes
 unfolding unit_fold line_made
 bare_fold plan lo bytes = refl
 
-bare_counts : (plan : Plan) (fold : List Folded) → counts_of (without_rules plan) fold ≡ counts_of plan fold
+pub bare_counts : (plan : Plan) (fold : List Folded) → counts_of (without_rules plan) fold ≡ counts_of plan fold
 unfolding counts_of
 bare_counts plan fold = refl
 

@@ -11,7 +11,7 @@ use Rattle.gob_bytes.specs.Lines.{Line, lines, lines_from, start_from, rest}
 use Rattle.gob_bytes.proofs.Cuts.{lines_join, lines_fill}
 use Rattle.gob_plan.specs.declared.plan.Plan.{Plan}
 use Rattle.gob_plan.specs.declared.units.Cause.{Cause}
-use Rattle.gob_meaning.specs.Items.{line_made}
+use Rattle.gob_meaning.specs.Items.{line_made, Target}
 use Rattle.gob_meaning.specs.Fold.{Folded, folded_line, Delivery, unit_fold, deliveries_of, line_deliveries}
 use Rattle.gob_meaning.specs.Fold.{same_target, sent_to, saturate_u64, items_in, is_record, is_bad, rows_in}
 use Rattle.gob_meaning.specs.Fold.{unrouted_in, is_written, is_error, in_branch, branch_counts, counts_of, line_stop}
@@ -181,3 +181,7 @@ parts_join plan x y = record {
   before = before_join plan.skip_errors x y;
   all = all_before plan.skip_errors x;
 }
+
+pub sent-append : (t : Target) (x y : List Delivery) → sent_to t (x ++ y) ≡ sent_to t x ++ sent_to t y
+unfolding sent_to
+sent-append t x y = flat_map-append (λ (p : Delivery). cond (same_target t p.target) p.bytes []) x y

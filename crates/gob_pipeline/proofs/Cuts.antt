@@ -1,17 +1,12 @@
 -- Pieces that are fed one after the other.
 use Rattle.std.proofs.Common.{◌≡◌, ℕ, List, [], ◌∷◌, ◌++◌, flat_map, refl, sym, ap, ◌∙◌, subst, append_assoc}
 use Rattle.std.proofs.Common.{append-nil}
-use Rattle.std.proofs.lemmas.List.Concat.{flat_map-append}
 use Rattle.gob_plan.specs.declared.plan.Plan.{Plan}
-use Rattle.gob_meaning.specs.Items.{Target}
 use Rattle.gob_meaning.specs.Fold.{Delivery, sent_to, unit_fold, before_stop}
+use Rattle.gob_meaning.proofs.Joins.{sent-append}
 use Rattle.gob_pipeline.specs.Made.{Buffers, AddsTo, buffer_of}
 use Rattle.gob_pipeline.specs.Machine.{MachineValue, WasFed, sent_before_stop, Sends, Fed}
 use Rattle.gob_pipeline.specs.Laws.{FedAll, AnyCutMakesTheSame}
-
-pub sent-append : (t : Target) (x y : List Delivery) → sent_to t (x ++ y) ≡ sent_to t x ++ sent_to t y
-unfolding sent_to
-sent-append t x y = flat_map-append _ x y
 
 pub adds_nothing : (b : Buffers) → AddsTo b b []
 unfolding sent_to

@@ -3,7 +3,7 @@ use Rattle.std.proofs.Common.{◌≡◌, ◌≢◌, ℕ, zero, suc, ◌+◌, ◌
 use Rattle.std.proofs.Common.{nat_le}
 use Rattle.std.proofs.Common.{List, [], ◌∷◌, ◌++◌, length, map, refl, sym, ap, ap₂, ◌∙◌, subst, arith, None, Some}
 use Rattle.std.proofs.Common.{append-nil, flat_map}
-use Rattle.std.proofs.lemmas.Bool.{and_parts, and_from, lt-ltb, le-leb, ltb-true, leb-true, eqb-true}
+use Rattle.std.proofs.lemmas.Bool.{and_parts, and_from, lt-ltb, le-leb, ltb-true, leb-true, eqb-true, eq-eqb}
 use Rattle.std.proofs.lemmas.Bool.Decides.{nat_tests}
 use Rattle.std.proofs.lemmas.List.Folds.{list_all-append}
 use Rattle.std.specs.Option.{unwrap_or}
@@ -13,11 +13,11 @@ use Rattle.gob_bytes.specs.Tables.{Table, at_name, names_of, name_cmp, IsInByteO
 use Rattle.gob_bytes.proofs.Tables.{same_name, two_names, less_apart, less_then, none_below, rising_tail}
 use Rattle.gob_meaning.specs.Items.{Target}
 use Rattle.gob_meaning.specs.Fold.{Delivery, sent_to, same_target}
+use Rattle.gob_meaning.proofs.Joins.{sent-append}
 use Rattle.gob_pipeline.specs.Made.{Buffers, AreSlotsFrom, AreSlots, IsSlot, buffer_of, slot_of, place_in, target_in}
 use Rattle.gob_pipeline.specs.Made.{filled_targets, filled_place, filled_slot, is_placed, is_place, AreEmpty, AddsTo}
 use Rattle.gob_pipeline.specs.Laws.{all_apart, has_bytes, IsFilled, FilledBuffersAreSent, PiecesFillBuffers}
-use Rattle.gob_pipeline.proofs.Cuts.{sent-append}
-use Rattle.gob_pipeline.proofs.Targets.{slot_in, place_in_slot, placed_in_slot, same_in_slot, HasPlace, itself}
+use Rattle.gob_pipeline.proofs.Targets.{slot_in, place_in_slot, placed_in_slot, same_in_slot, HasPlace}
 
 -- ---- one slot
 
@@ -110,7 +110,8 @@ sent_at t n zero (table ∷ tables) at slots =
     let here : slot_of t ≡ n = omega (arith, at) in
     let x = unwrap_or (at_name table (place_in t)) [] in
     sent-append t (filled_slot (n, table)) (all_from (n + 1) tables)
-    ∙ ap₂ (λ x y. x ++ y) (table_sent t n table slots.0 ∙ ap (λ v. cond v x []) (ap (λ m. nat_eq m n) here ∙ itself n))
+    ∙ ap₂ (λ x y. x ++ y)
+    (table_sent t n table slots.0 ∙ ap (λ v. cond v x []) (ap (λ m. nat_eq m n) here ∙ eq-eqb n n refl))
     (sent_below t (n + 1) tables (omega (arith, here)) (next slots.1))
     ∙ append-nil x
   where

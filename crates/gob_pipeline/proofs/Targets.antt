@@ -29,9 +29,6 @@ same_even b c = cases (nat_eq b c) refl
 pub apart : (m n : ℕ) → m ≢ n → nat_eq m n ≡ false
 apart m n e = grind (arith, nat_tests)
 
-pub itself : (n : ℕ) → nat_eq n n ≡ true
-itself n = grind (arith, nat_tests)
-
 -- ---- two targets are one where their slots and their places are
 
 pub same_by_slot : (t u : Target) →

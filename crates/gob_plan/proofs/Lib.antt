@@ -1,4 +1,4 @@
 mod Copies
 mod Along
-mod Named
+pub mod Named
 pub mod Examples

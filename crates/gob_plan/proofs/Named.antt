@@ -1,9 +1,10 @@
 -- The column that a test names, and its value in a row.
-use Rattle.std.proofs.Common.{◌≡◌, ℕ, suc, ◌+◌, ◌<◌, Bool, true, false, cond, ◌&&◌, nat_lt, List, [], ◌∷◌, Some}
+use Rattle.std.proofs.Common.{◌≡◌, ℕ, suc, ◌+◌, ◌<◌, Bool, true, false, cond, nat_lt, List, [], ◌∷◌, Some}
 use Rattle.std.proofs.Common.{None, length, get_or, refl, sym, ap, subst, ◌∙◌, ◌≤◌, arith}
 use Rattle.std.specs.List.{position_or_len}
 use Rattle.std.specs.Str.{bytes_eq}
 use Rattle.std.proofs.lemmas.Bool.Decides.{nat_tests}
+use Rattle.std.proofs.lemmas.Bool.{and_parts}
 use Rattle.gob_plan.specs.declared.rows.Column.{Column}
 use Rattle.gob_plan.specs.declared.rows.Value.{Value}
 use Rattle.gob_plan.specs.Columns.{position_of}
@@ -11,12 +12,8 @@ use Rattle.gob_plan.specs.Rows.{values_conform, value_of, kind_of}
 use Rattle.gob_plan.specs.Tests.{fits_kind}
 use Rattle.gob_plan.specs.declared.checks.Check.{Check}
 
-abbrev place : List ℕ → List Column → ℕ
+abbrev pub place : List ℕ → List Column → ℕ
 place name columns = position_or_len (λ c. bytes_eq c.name name) columns
-
-both : (a b : Bool) → (a && b) ≡ true → b ≡ true
-both true b is = is
-both false b is = cc
 
 pub record StandsAt (name : List ℕ) (columns : List Column) (values : List Value) (k : ℕ) : Type 0 where
   pub there : k < length values
@@ -27,7 +24,8 @@ stands_at : (name : List ℕ) (columns : List Column) (values : List Value) → 
     place name columns < length columns → StandsAt name columns values (place name columns)
 stands_at name [] values fits below = absurd (omega (arith, below))
 stands_at name (c ∷ cs) [] fits below = cc
-stands_at name (c ∷ cs) (v ∷ vs) fits below = either (bytes_eq c.name name) refl (stands_at name cs vs (both _ _ fits))
+stands_at name (c ∷ cs) (v ∷ vs) fits below =
+    either (bytes_eq c.name name) refl (stands_at name cs vs (and_parts _ _ fits).1)
   where
     either : (b : Bool) → bytes_eq c.name name ≡ b → (place name cs < length cs → StandsAt name cs vs (place name cs)) →
         StandsAt name (c ∷ cs) (v ∷ vs) (place name (c ∷ cs))

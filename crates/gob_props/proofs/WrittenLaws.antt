@@ -11,7 +11,7 @@ use Rattle.std.proofs.Common.{length-append}
 use Rattle.std.proofs.lemmas.Bool.Decides.{nat_tests}
 use Rattle.std.proofs.Common.{◌⊎◌, inl, inr, ⊎_elim}
 use Rattle.std.proofs.Math.Seq.{take-length}
-use Rattle.std.proofs.lemmas.Bool.{cond-true, cond-false, eqb-true, or_parts, and_from}
+use Rattle.std.proofs.lemmas.Bool.{cond-true, cond-false, eqb-true, or_parts, and_from, and_parts}
 use Rattle.std.proofs.lemmas.List.{take-append-le, drop_at}
 use Rattle.std.proofs.lemmas.Str.{chars-encodes, is_utf8-from_IsUtf8}
 use Rattle.gob_props.specs.Properties.{is_line_end, natural_from, natural_lines, is_white_space, is_backslash}
@@ -54,14 +54,6 @@ record Raw (c : ℕ) : Type 0 where
 data Spelling (c : ℕ) : Type 0 where
   by_letter : (letter : ℕ) → Escaped c letter → Spelling c
   as_itself : Raw c → Spelling c
-
-and_left_true : (a b : Bool) → (a && b) ≡ true → a ≡ true
-and_left_true true b is = refl
-and_left_true false b is = is
-
-and_right_true : (a b : Bool) → (a && b) ≡ true → b ≡ true
-and_right_true true b is = is
-and_right_true false b is = cc
 
 either_true : (a b : Bool) → (a || b) ≡ true → (a ≡ true) ⊎ (b ≡ true)
 either_true true b is = inl refl
@@ -163,7 +155,7 @@ scalars_spelled : (cs rest : List ℕ) → scalars cs ≡ true → scalars rest 
     ≡ true
 scalars_spelled [] rest all more = more
 scalars_spelled (c ∷ cs) rest all more =
-    step (spelling_of c) (and_left_true _ _ all) (scalars_spelled cs rest (and_right_true _ _ all) more)
+    step (spelling_of c) (and_parts _ _ all).0 (scalars_spelled cs rest (and_parts _ _ all).1 more)
   where
     step : Spelling c → scalar c ≡ true → scalars (spelled_text cs ++ rest) ≡ true
         → scalars (spelled_text (c ∷ cs) ++ rest) ≡ true
@@ -350,12 +342,12 @@ natural_written (e ∷ es) =
 scalars_written : (es : List Written) → are_scalars es ≡ true → scalars (written_text es) ≡ true
 scalars_written [] all = refl
 scalars_written (e ∷ es) all =
-    let first = and_left_true _ _ all in
+    let first = (and_parts _ _ all).0 in
     ap scalars (append_assoc (line_of e) (10 ∷ []) (written_text es)
     ∙ append_assoc (spelled_text e.0) (61 ∷ spelled_text e.1) (10 ∷ written_text es))
-    ∙ scalars_spelled e.0 (61 ∷ (spelled_text e.1 ++ 10 ∷ written_text es)) (and_left_true _ _ first)
-    (scalars_spelled e.1 (10 ∷ written_text es) (and_right_true _ _ first)
-    (scalars_written es (and_right_true _ _ all)))
+    ∙ scalars_spelled e.0 (61 ∷ (spelled_text e.1 ++ 10 ∷ written_text es)) (and_parts _ _ first).0
+    (scalars_spelled e.1 (10 ∷ written_text es) (and_parts _ _ first).1
+    (scalars_written es (and_parts _ _ all).1))
 
 pub read_back : EntriesReadBack
 unfolding properties_of

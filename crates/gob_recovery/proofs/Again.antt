@@ -1,20 +1,18 @@
 -- Steps that were done already change nothing more, so a sequence may be stopped and done again.
-use Rattle.std.proofs.Common.{◌≡◌, inr, ℕ, zero, suc, Bool, true, false, cond, not, ◌&&◌, ◌||◌, nat_eq, List, [], ◌∷◌}
+use Rattle.std.proofs.Common.{◌≡◌, inr, ℕ, zero, suc, Bool, true, false, cond, ◌&&◌, ◌||◌, nat_eq, List, [], ◌∷◌}
 use Rattle.std.proofs.Common.{refl, sym, ap, ◌∙◌, is_some, take, Some, None}
 use Rattle.std.specs.declared.option.Option.{Option}
 use Rattle.std.specs.List.{AllByRecursion, IsDistinct, list_all, flat_map}
 use Rattle.std.specs.Str.{bytes_eq}
-use Rattle.std.proofs.lemmas.Bool.{and_parts, and_from}
+use Rattle.std.proofs.lemmas.Bool.{and_parts, and_from, not-true}
 use Rattle.std.proofs.Math.Bool.{and-false}
 use Rattle.std.proofs.lemmas.Slice.Eq.{bytes_eq-Decides}
 use Rattle.gob_bytes.specs.Paths.{begins_with, staging, sequence_name}
+use Rattle.gob_bytes.proofs.Tables.{name_itself}
 use Rattle.gob_device.specs.Disk.{Files, File, put, after_rename, after_remove}
 use Rattle.gob_recovery.specs.Sequence.{CommitStep, move, remove, names_in, step_fits, is_lasting}
 use Rattle.gob_recovery.specs.Settle.{do_step, do_steps, moved_where, without_staging, can_do}
 use Rattle.gob_recovery.specs.Laws.{SettlingCanBeRepeated}
-
-pub same : (x : List ℕ) → bytes_eq x x ≡ true
-same x = (bytes_eq-Decides x x).1 refl
 
 -- names that differ do so either way round
 pub turned : (x y : List ℕ) → bytes_eq x y ≡ false → bytes_eq y x ≡ false
@@ -100,11 +98,11 @@ moved_spends : (o : Option File) (source target : List ℕ) (m : Files) → m so
 unfolding after_rename
 moved_spends None source target m e own = e
 moved_spends (Some f) source target m e own = ap (λ b. cond b (m source) (put m source None source)) own
-    ∙ ap (λ b. cond b None (m source)) (same source)
+    ∙ ap (λ b. cond b None (m source)) (name_itself source)
 
 pub step_spends : (s : CommitStep) (m : Files) → Own s → do_step s m (source_of s) ≡ None
 unfolding after_remove
-step_spends (remove name) m own = ap (λ b. cond b None (m name)) (same name)
+step_spends (remove name) m own = ap (λ b. cond b None (m name)) (name_itself name)
 step_spends (move source target) m own = moved_spends (m source) source target m refl own
 
 sources_off : (s : CommitStep) (ss : List CommitStep) → AllByRecursion (Differ s) ss
@@ -138,7 +136,7 @@ unfolding after_rename
 moved_can None source target m e can = can
 moved_can (Some f) source target m e can =
     ap (λ v. is_some (put (put m source None) target (m source) source) || is_some v)
-    (ap (λ b. cond b (m source) (put m source None target)) (same target) ∙ e)
+    (ap (λ b. cond b (m source) (put m source None target)) (name_itself target) ∙ e)
     ∙ or_true (is_some (put (put m source None) target (m source) source))
 
 can_own : (s : CommitStep) (m : Files) → can_do m s ≡ true → can_do (do_step s m) s ≡ true
@@ -208,12 +206,8 @@ source_apart job source staged = elim (bytes_eq (sequence_name job) source) as
       | false ↦ λ e. refl
     ] refl
 
-pub untrue : (b : Bool) → not b ≡ true → b ≡ false
-untrue true e = sym e
-untrue false e = refl
-
 pub lasting_apart : (job name : List ℕ) → is_lasting job name ≡ true → bytes_eq (sequence_name job) name ≡ false
-lasting_apart job name e = turned name (sequence_name job) (untrue _ (and_parts _ _ e).1)
+lasting_apart job name e = turned name (sequence_name job) (not-true _ (and_parts _ _ e).1)
 
 step_apart : (job : List ℕ) (s : CommitStep) → step_fits job s ≡ true → Off s (sequence_name job)
 step_apart job (move source target) e =

@@ -1,25 +1,26 @@
 -- What the maps of a commit settle to, call by call.
-use Rattle.std.proofs.Common.{◌≡◌, ◌⊎◌, inl, inr, ℕ, zero, suc, Bool, true, false, cond, ◌&&◌, ◌||◌, List, [], ◌∷◌}
-use Rattle.std.proofs.Common.{◌++◌, refl, sym, ap, subst, ◌∙◌, is_some, take, drop, Some, None, codes, Contains, nat_eq}
+use Rattle.std.proofs.Common.{◌≡◌, inl, inr, ℕ, suc, true, false, cond, ◌||◌, List, [], ◌∷◌}
+use Rattle.std.proofs.Common.{refl, sym, ap, subst, ◌∙◌, is_some, take, Some, None, codes, Contains}
 use Rattle.std.proofs.Common.{arith, option_map}
 use Rattle.std.specs.declared.option.Option.{Option}
 use Rattle.std.specs.List.{AllByRecursion, list_all}
 use Rattle.std.specs.Str.{bytes_eq}
-use Rattle.std.proofs.lemmas.Bool.{and_parts, and_from, true≢false, eq-eqb}
+use Rattle.std.proofs.lemmas.Bool.{and_parts, and_from, true≢false, not-true}
 use Rattle.std.proofs.lemmas.Slice.Eq.{bytes_eq-Decides}
-use Rattle.gob_bytes.specs.Paths.{begins_with, under, staging, sequence_name}
-use Rattle.gob_device.specs.Disk.{Files, File, clean, contents_of, with_more, synced_file, put, after_create}
+use Rattle.gob_bytes.specs.Paths.{begins_with, staging, sequence_name}
+use Rattle.gob_bytes.proofs.Paths.{front_more}
+use Rattle.gob_bytes.proofs.Tables.{name_itself}
+use Rattle.gob_device.specs.Disk.{Files, File, clean, with_more, synced_file, put, after_create}
 use Rattle.gob_device.specs.Disk.{after_append, after_sync, after_rename, after_remove}
-use Rattle.gob_recovery.specs.Sequence.{CommitStep, move, remove, is_staged, is_lasting, step_fits, sequence_text}
+use Rattle.gob_recovery.specs.Sequence.{CommitStep, move, remove, step_fits, sequence_text}
 use Rattle.gob_recovery.specs.Sequence.{WellFormed}
-use Rattle.gob_recovery.specs.Settle.{do_step, do_steps, without_staging, can_do, Open, after_finish, Settles}
-use Rattle.gob_recovery.specs.Settle.{IsSettled, SettlesAs}
-use Rattle.gob_recovery.specs.Laws.{NoTornSequence}
+use Rattle.gob_recovery.specs.Settle.{do_steps, without_staging, can_do, Open, after_finish, Settles}
+use Rattle.gob_recovery.specs.Settle.{SettlesAs}
 use Rattle.gob_recovery.specs.Commits.{OnlyBelow, staged_sequence, AreClean, part_done}
-use Rattle.gob_recovery.proofs.Again.{Off, steps_apart, steps_off, not_staged, settling_repeats, turned, same, untrue}
+use Rattle.gob_recovery.proofs.Again.{Off, steps_apart, steps_off, not_staged, settling_repeats, turned}
 use Rattle.gob_recovery.proofs.Images.{images_alike}
 use Rattle.gob_recovery.proofs.Opened.{Beside, steps_beside, all_beside, steps_still, opened}
-use Rattle.gob_recovery.proofs.Settled.{cleaned_staged, cleaned_other, settled_is, staged_free}
+use Rattle.gob_recovery.proofs.Settled.{cleaned_other, settled_is, staged_free}
 use Rattle.gob_recovery.proofs.Spelled.{to_one}
 
 -- ---- names below a folder
@@ -74,12 +75,6 @@ below_synced folder name m inside = below_put folder name m _ inside
 
 -- ---- the staged sequence
 
-pub front_more : (front more : List ℕ) → begins_with front (front ++ more) ≡ true
-front_more [] [] = refl
-front_more [] (b ∷ more) = refl
-front_more (b ∷ front) more = and_from (nat_eq b b) (begins_with front (front ++ more)) (eq-eqb b b refl)
-    (front_more front more)
-
 pub sequence_staged : (job : List ℕ) → begins_with (staging job) (staged_sequence job) ≡ true
 sequence_staged job = front_more (staging job) (codes "seq")
 
@@ -93,8 +88,8 @@ step_avoids job (move source target) e =
     let outer = and_parts _ _ e in
     let inner = and_parts _ _ outer.0 in
     let both = and_parts _ _ inner.0 in
-    let source_not = untrue _ (and_parts _ _ both.0).1 in
-    let target_not = untrue _ (and_parts _ _ (and_parts _ _ both.1).0).1 in (
+    let source_not = not-true _ (and_parts _ _ both.0).1 in
+    let target_not = not-true _ (and_parts _ _ (and_parts _ _ both.1).0).1 in (
       turned source (staged_sequence job) source_not,
       (
         turned target (staged_sequence job)
@@ -104,7 +99,7 @@ step_avoids job (move source target) e =
     )
 step_avoids job (remove name) e =
     let lasting = (and_parts _ _ e).0 in
-    let not' = untrue _ (and_parts _ _ (and_parts _ _ lasting).0).1 in (
+    let not' = not-true _ (and_parts _ _ (and_parts _ _ lasting).0).1 in (
       turned name (staged_sequence job) (apart_below (staging job) (staged_sequence job) name (sequence_staged job)
           not'),
       tt,
@@ -330,7 +325,7 @@ pub written : (name bytes : List ℕ) (m : Files) → after_sync name (after_app
     Some (clean bytes)
 unfolding after_sync after_append after_create
 written name bytes m =
-    let here = same name in
+    let here = name_itself name in
     let made : after_create name m name ≡ Some (clean []) = ap (λ b. cond b (Some (clean [])) (m name)) here in
     let more : after_append name bytes (after_create name m) name ≡ Some (with_more bytes (clean [])) =
     ap (λ b. cond b (option_map (with_more bytes) (after_create name m name)) (after_create name m name)) here
@@ -347,10 +342,10 @@ pub renamed_opens : (job : List ℕ) (steps : List CommitStep) (m n : Files)
 unfolding after_rename
 renamed_opens job steps m n there others = record {
   here = ap (λ b. cond b (n (staged_sequence job)) (put n (staged_sequence job) None (sequence_name job)))
-      (same (sequence_name job)) ∙ there;
+      (name_itself (sequence_name job)) ∙ there;
   gone = ap (λ b. cond b (n (staged_sequence job)) (put n (staged_sequence job) None (staged_sequence job)))
       (turned (sequence_name job) (staged_sequence job) (sequences_apart job))
-      ∙ ap (λ b. cond b None (n (staged_sequence job))) (same (staged_sequence job));
+      ∙ ap (λ b. cond b None (n (staged_sequence job))) (name_itself (staged_sequence job));
   others = λ name e f. ap (λ b. cond b (n (staged_sequence job)) (put n (staged_sequence job) None name)) e
       ∙ (ap (λ b. cond b None (n name)) f ∙ others name f);
 }

@@ -1,17 +1,17 @@
 -- Whether bytes read as a sequence, and whether a map settles, is decided.
-use Rattle.std.proofs.Common.{◌≡◌, ◌≢◌, ◌⊎◌, ⊎_elim, inl, inr, ℕ, zero, suc, ◌+◌, ◌≤◌, ◌<◌, true, false, not, nat_eq}
+use Rattle.std.proofs.Common.{◌≡◌, ◌≢◌, ◌⊎◌, ⊎_elim, inl, inr, ℕ, zero, suc, ◌+◌, ◌≤◌, true, false}
 use Rattle.std.proofs.Common.{List, [], ◌∷◌, ◌++◌, length, refl, sym, ap, subst, ◌∙◌, Some, None, codes, arith}
 use Rattle.std.proofs.Common.{length-append}
 use Rattle.std.specs.declared.option.Option.{Option}
 use Rattle.std.specs.List.{AllByRecursion, IsDistinct, list_all, flat_map}
 use Rattle.std.specs.Str.{bytes_eq}
-use Rattle.std.proofs.lemmas.Bool.{and_parts, and_from, eqb-true, eqb-false, ne_eqb, eq-eqb, true≢false, not_from_false}
+use Rattle.std.proofs.lemmas.Bool.{and_parts, and_from, ne_eqb, true≢false, not_from_false}
 use Rattle.std.proofs.lemmas.Bool.{cases_Bool, cases_eq}
 use Rattle.std.proofs.lemmas.Slice.Eq.{bytes_eq-Decides}
 use Rattle.gob_bytes.specs.Paths.{sequence_name}
 use Rattle.gob_device.specs.Disk.{Files, File, contents_of}
-use Rattle.gob_recovery.specs.Sequence.{CommitStep, move, remove, names_in, is_file_name, step_fits, step_line}
-use Rattle.gob_recovery.specs.Sequence.{WellFormed, Reads, sequence_text}
+use Rattle.gob_recovery.specs.Sequence.{CommitStep, move, remove, names_in, step_fits}
+use Rattle.gob_recovery.specs.Sequence.{Reads}
 use Rattle.gob_recovery.specs.Settle.{can_do, without_staging, after_finish, Settles, IsDamaged, sequence, lost}
 use Rattle.gob_recovery.specs.Laws.{SettlesOrIsDamaged}
 use Rattle.gob_recovery.proofs.Spelled.{Free, parted, cancel, free_name, names_of_move, name_of_remove, body, last_line}

@@ -1,18 +1,17 @@
 -- The worked examples of a commit.
-use Rattle.std.proofs.Common.{◌≡◌, ◌≢◌, inl, inr, ℕ, zero, suc, ◌+◌, ◌-◌, ◌≤◌, Bool, true, false, cond, ◌||◌, List, []}
+use Rattle.std.proofs.Common.{◌≡◌, ℕ, zero, suc, ◌+◌, ◌-◌, ◌≤◌, Bool, true, false, cond, ◌||◌, List, []}
 use Rattle.std.proofs.Common.{◌∷◌, ◌++◌, take, drop, length, refl, sym, append_assoc, ap, subst, ◌∙◌, Some, None, codes}
 use Rattle.std.proofs.Common.{arith}
-use Rattle.std.specs.declared.option.Option.{Option}
 use Rattle.std.specs.Fmt.{decimal, digits}
 use Rattle.std.specs.List.{AllByRecursion, IsDistinct, list_any, flat_map}
 use Rattle.std.specs.Str.{bytes_eq}
 use Rattle.std.proofs.lemmas.Bool.{true≢false}
 use Rattle.gob_bytes.specs.Lines.{ends_in_lf}
-use Rattle.gob_bytes.specs.Paths.{begins_with, staging, sequence_name}
-use Rattle.gob_device.specs.Disk.{Files, File, clean, no_files, put, after_create, after_append, after_sync}
+use Rattle.gob_bytes.specs.Paths.{begins_with, staging}
+use Rattle.gob_device.specs.Disk.{Files, clean, after_create, after_append, after_sync}
 use Rattle.gob_device.specs.Disk.{after_rename, after_remove, Torn}
-use Rattle.gob_recovery.specs.Sequence.{CommitStep, move, remove, step_line, WellFormed, Reads, sequence_text}
-use Rattle.gob_recovery.specs.Settle.{do_steps, without_staging, can_do, Open, IsSettled, Settles, IsDamaged, sequence}
+use Rattle.gob_recovery.specs.Sequence.{CommitStep, move, remove, step_line, WellFormed, sequence_text}
+use Rattle.gob_recovery.specs.Settle.{do_steps, without_staging, IsSettled, Settles, sequence}
 use Rattle.gob_recovery.specs.Settle.{lost, SettlesAs}
 use Rattle.gob_recovery.specs.Commits.{OnlyBelow, part_done}
 use Rattle.gob_recovery.specs.Examples.{steps, one_move_text, entry, calls, after_calls, stopped_files, committed_files}
@@ -22,7 +21,7 @@ use Rattle.gob_recovery.proofs.Again.{Off, turned}
 use Rattle.gob_recovery.proofs.Opened.{steps_still}
 use Rattle.gob_recovery.proofs.Settled.{cleaned_other, staged_free}
 use Rattle.gob_recovery.proofs.Commits.{apart_below, below_same, below_then, below_created, below_appended}
-use Rattle.gob_recovery.proofs.Commits.{below_synced, Opens, CanCommit, StepsGo, steps_go, closes_is, closed_settles}
+use Rattle.gob_recovery.proofs.Commits.{below_synced, Opens, CanCommit, steps_go, closes_is, closed_settles}
 use Rattle.gob_recovery.proofs.Commits.{renamed_opens}
 
 abbrev job : List ℕ

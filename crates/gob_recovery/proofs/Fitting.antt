@@ -1,5 +1,5 @@
 -- Which bytes, names and steps a sequence may have, as tables.
-use Rattle.std.proofs.Common.{◌≡◌, Bool, true, false, List, [], ◌∷◌, map, filter, refl, codes}
+use Rattle.std.proofs.Common.{◌≡◌, true, false, [], ◌∷◌, map, filter, refl, codes}
 use Rattle.std.specs.List.{range_with_len}
 use Rattle.gob_recovery.specs.Sequence.{is_file_name, is_sequence_byte, move, remove, step_fits}
 

@@ -8,3 +8,4 @@ pub mod Opened
 pub mod Decided
 pub mod Commits
 pub mod Examples
+pub mod Names

@@ -1,16 +1,16 @@
 -- A sequence that was just opened, and what its steps do on the way.
 use Rattle.std.proofs.Common.{◌≡◌, ◌⊎◌, ⊎_elim, inl, inr, ℕ, zero, suc, Bool, true, false, cond, ◌&&◌, ◌||◌, List, []}
 use Rattle.std.proofs.Common.{◌∷◌, refl, sym, ap, subst, ◌∙◌, is_some, take, Some, None}
-use Rattle.std.specs.declared.option.Option.{Option}
 use Rattle.std.specs.List.{AllByRecursion, list_all}
 use Rattle.std.specs.Str.{bytes_eq}
 use Rattle.std.proofs.lemmas.Slice.Eq.{bytes_eq-Decides}
 use Rattle.gob_bytes.specs.Paths.{sequence_name}
+use Rattle.gob_bytes.proofs.Tables.{name_itself}
 use Rattle.gob_device.specs.Disk.{Files, File, clean, put, after_rename, after_remove}
-use Rattle.gob_recovery.specs.Sequence.{CommitStep, move, remove, sequence_text, WellFormed}
+use Rattle.gob_recovery.specs.Sequence.{CommitStep, move, remove, sequence_text}
 use Rattle.gob_recovery.specs.Settle.{do_step, do_steps, moved_where, without_staging, can_do}
 use Rattle.gob_recovery.specs.Laws.{OpenedSettles, StepsChangeOnce}
-use Rattle.gob_recovery.proofs.Again.{Off, Differ, Apart, apart_from, step_off, steps_apart, turned, same}
+use Rattle.gob_recovery.proofs.Again.{Off, Differ, Apart, apart_from, step_off, steps_apart, turned}
 
 -- the maps agree but at one name
 abbrev pub Beside : List ℕ → Files → Files → Type 0
@@ -73,7 +73,7 @@ opened job steps m fits closed can =
       steps,
       record {
         file = text;
-        here = ap (λ b. cond b (Some text) (m (sequence_name job))) (same (sequence_name job));
+        here = ap (λ b. cond b (Some text) (m (sequence_name job))) (name_itself (sequence_name job));
         reads = record { spelled = refl; fits = fits };
       },
       all_beside (sequence_name job) steps (put m (sequence_name job) (Some text)) m off agree ∙ can,

@@ -1,9 +1,8 @@
 -- The column with a name, by its place, and its value in a row.
-use Rattle.std.proofs.Common.{◌≡◌, ℕ, suc, ◌+◌, ◌<◌, ◌≤◌, Bool, true, false, cond, ◌&&◌, nat_eq, nat_lt, List, [], ◌∷◌}
+use Rattle.std.proofs.Common.{◌≡◌, ℕ, suc, ◌+◌, ◌<◌, Bool, true, false, cond, ◌&&◌, nat_lt, List, [], ◌∷◌}
 use Rattle.std.proofs.Common.{Option, Some, None, length, get_or, inl, inr, refl, sym, ap, subst, ◌∙◌, arith, ◌⊎◌}
-use Rattle.std.specs.List.{position_or_len}
 use Rattle.std.specs.Str.{bytes_eq}
-use Rattle.std.proofs.lemmas.Bool.{and_parts, lt-ltb}
+use Rattle.std.proofs.lemmas.Bool.{and_parts, lt-ltb, eq-eqb}
 use Rattle.std.proofs.lemmas.Bool.Decides.{nat_tests}
 use Rattle.gob_plan.specs.declared.rows.Kind.{Kind}
 use Rattle.gob_plan.specs.declared.rows.Column.{Column}
@@ -12,14 +11,8 @@ use Rattle.gob_plan.specs.declared.checks.Check.{Check}
 use Rattle.gob_plan.specs.Columns.{position_of}
 use Rattle.gob_plan.specs.Rows.{values_conform, value_of, kind_of}
 use Rattle.gob_plan.specs.Tests.{fits_kind}
+use Rattle.gob_plan.proofs.Named.{place, no_kind}
 use Rattle.gob_rowcheck.specs.Places.{is_at, stands_at}
-
--- where the first column with a name stands; the number of columns, where none has it
-abbrev pub place : List ℕ → List Column → ℕ
-place name columns = position_or_len (λ c. bytes_eq c.name name) columns
-
-nat_itself : (n : ℕ) → nat_eq n n ≡ true
-nat_itself n = grind (arith, nat_tests)
 
 -- what a row has at the place of a name
 pub record Stands (name : List ℕ) (columns : List Column) (values : List Value) (k : ℕ) : Type 0 where
@@ -62,7 +55,7 @@ pub stands_cases : (name : List ℕ) (c : Column) (cs : List Column) (i : ℕ) �
 stands_cases name c cs i is = either (bytes_eq c.name name) refl (found name (c ∷ cs) i is)
   where
     at_place : (n m : ℕ) → n < m → is_at (cond (nat_lt n m) (Some n) None) n ≡ true
-    at_place n m below = rw (lt-ltb n m below, nat_itself n) refl
+    at_place n m below = rw (lt-ltb n m below, eq-eqb n n refl) refl
 
     either : (b : Bool) → bytes_eq c.name name ≡ b
         → (place name (c ∷ cs) < length (c ∷ cs)) × (place name (c ∷ cs) ≡ i)
@@ -88,16 +81,7 @@ value_at name columns values i fits is =
 pub told_place : (lent name : List ℕ) (columns : List Column) (i : ℕ) → lent ≡ name → Some i ≡ position_of lent columns
     → stands_at name columns i ≡ true
 told_place lent name columns i same is =
-    ap (λ n. stands_at n columns i) (sym same) ∙ ap (λ o. is_at o i) (sym is) ∙ nat_itself i
-
-no_kind : (name : List ℕ) (columns : List Column) → (length columns ≤ place name columns) → kind_of name columns ≡ None
-no_kind name [] above = refl
-no_kind name (c ∷ cs) above = either (bytes_eq c.name name) refl (no_kind name cs)
-  where
-    either : (b : Bool) → bytes_eq c.name name ≡ b → (length cs ≤ place name cs → kind_of name cs ≡ None)
-        → kind_of name (c ∷ cs) ≡ None
-    either true e more = let h = rw e at above in absurd (omega (arith, h))
-    either false e more = rw e (more (let h = rw e at above in omega (arith, h)))
+    ap (λ n. stands_at n columns i) (sym same) ∙ ap (λ o. is_at o i) (sym is) ∙ eq-eqb i i refl
 
 -- a name that no look-up finds has no kind
 pub told_none : (lent name : List ℕ) (columns : List Column) → lent ≡ name → None ≡ position_of lent columns

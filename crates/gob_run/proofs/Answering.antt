@@ -2,6 +2,7 @@
 use Rattle.std.proofs.Common.{◌≡◌, ◌⊎◌, inl, inr, ℕ, ◌+◌, ◌*◌, ◌≤◌, List, [], refl, sym, ap, subst, ◌∙◌}
 use Rattle.std.proofs.Common.{Some, None}
 use Rattle.std.proofs.Common.{arith, IfOk, IfErr, IfSome, length}
+use Rattle.std.proofs.lemmas.Option.{same_Some}
 use Rattle.std.specs.declared.option.Option.{Option}
 use Rattle.std.specs.declared.result.Result.TheVariants.{Ok, Err}
 use Rattle.gob_bytes.specs.Paths.{under}
@@ -14,7 +15,6 @@ use Rattle.gob_meaning.specs.Job.{Job}
 use Rattle.gob_ledger.specs.Turns.{pulls_in, turns_of, verdicts_of}
 use Rattle.gob_ledger.specs.Units.{first_shrunk, new_units, range_count}
 use Rattle.gob_ledger.specs.UnitLaws.{new_count}
-use Rattle.gob_ledger.proofs.OneState.{same_some}
 use Rattle.gob_recovery.specs.Commits.{OnlyBelow}
 use Rattle.gob_recovery.proofs.Settled.{settled_is}
 use Rattle.gob_history.specs.Runs.{run_units, state_or_empty}
@@ -238,7 +238,7 @@ answered_behind_work job failing l cut a old mid new u w still = record {
             let none : cut.units ≡ [] =
             units_are job l cut s (cut_told job l cut old mid s u is_s)
             ∙ owes l.state (entry_of job.name l d b.0 b.2) in
-            let same : went.0 ≡ b.0 = same_some went.0 b.0 (sym went.1 ∙ still none ∙ b.1) in
+            let same : went.0 ≡ b.0 = same_Some went.0 b.0 (sym went.1 ∙ still none ∙ b.1) in
             subst (OnlySettled job.name d) (sym same) (only_settled job.name l d b.0 b.2),
       );
   pulled = subst (λ o. HasPulled o new.supply) u.supply w.pulled;

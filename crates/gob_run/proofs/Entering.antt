@@ -4,6 +4,7 @@ use Rattle.std.proofs.Common.{option_map, is_some, ◌||◌, ap₂, append-nil}
 use Rattle.gob_bytes.specs.Tables.{IsInByteOrder, names_of}
 use Rattle.gob_device.specs.Disk.{File, Files, FileImage, Image, EachOf, Rises, clean, contents_of, dirty}
 use Rattle.gob_device.specs.Supply.{Held}
+use Rattle.gob_device.proofs.Trail.{rises_more}
 use Rattle.gob_meaning.specs.Job.{Job}
 use Rattle.gob_ledger.specs.Next.{Judged}
 use Rattle.gob_ledger.specs.State.{State}
@@ -21,7 +22,7 @@ use Rattle.gob_history.specs.Runs.{TrailOfRun, TrailOfSettling, after_group, cha
 use Rattle.gob_history.specs.Laws.{BeginsWith, StagedOver}
 use Rattle.gob_history.specs.Sound.{Stores}
 use Rattle.gob_history.proofs.Goes.{goes}
-use Rattle.gob_history.proofs.Rising.{rises_more, rises_on}
+use Rattle.gob_history.proofs.Rising.{rises_on}
 use Rattle.gob_history.proofs.Stands.{standing}
 use Rattle.gob_history.proofs.Steadied.{quiet_sequence, steadied}
 use Rattle.gob_history.proofs.Along.{each_append}

@@ -4,7 +4,7 @@ use Rattle.std.proofs.Common.{List, [], ◌∷◌, map, length, get_or, take, dr
 use Rattle.std.proofs.Common.{unwrap_or, refl, sym, ap, subst, ◌∙◌, arith, length-take, length-drop, get_or-take}
 use Rattle.std.proofs.Common.{get_or-drop, ext_get_or}
 use Rattle.std.specs.List.{Contains, range_with_len}
-use Rattle.std.proofs.lemmas.Bool.{and_from, le-leb, lt-ltb}
+use Rattle.std.proofs.lemmas.Bool.{and_from, le-leb, lt-ltb, false_from_ne_true}
 use Rattle.std.proofs.lemmas.List.FromFn.{get_or-map-range_with_len, length-map-range_with_len}
 use Rattle.std.proofs.lemmas.Option.{get_or_from_slice_get, same_Some, slice_get_within}
 use Rattle.gob_bytes.specs.Tables.{at_name}
@@ -37,10 +37,6 @@ lies_itself u k below = and_from (bytes_eq u.part u.part) (nat_le u.lo (u.lo + k
     (and_from (nat_le u.lo (u.lo + k)) (nat_lt (u.lo + k) u.hi) (le-leb u.lo (u.lo + k) (omega arith))
     (lt-ltb (u.lo + k) u.hi (omega (arith, below))))
 
-not_true : (b : Bool) → (b ≡ true → ⊥) → b ≡ false
-not_true true never = absurd (never refl)
-not_true false never = refl
-
 at_place : (units : List WorkUnit) (i : ℕ) (u : WorkUnit) → slice_get units i ≡ Some u → Contains units u
 at_place units i u e = (i, slice_get_within units i u e, get_or_from_slice_get units i u u e)
 
@@ -57,7 +53,7 @@ byte_given (v ∷ vs) given apart zero u e k below = subst
     ∙ ap (λ n. get_or (given 0) n 0) (let same : v.lo + k - v.lo ≡ k = omega arith in same))
     below
 byte_given (v ∷ vs) given apart (suc i) u e k below =
-    let other : lies_in u.part (u.lo + k) v ≡ false = not_true (lies_in u.part (u.lo + k) v)
+    let other : lies_in u.part (u.lo + k) v ≡ false = false_from_ne_true (lies_in u.part (u.lo + k) v)
     (λ both. apart.0 u (at_place vs i u e) (u.lo + k) both (lies_itself u k below)) in
     ap (λ b. cond b (get_or (given 0) (u.lo + k - v.lo) 0) (byte_at vs (λ j. given (suc j)) u.part (u.lo + k))) other
     ∙ byte_given vs (λ j. given (suc j)) apart.1 i u e k below

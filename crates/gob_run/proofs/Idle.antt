@@ -4,7 +4,8 @@ use Rattle.std.proofs.Common.{append-nil, arith, length, map}
 use Rattle.std.specs.declared.option.Option.{Option}
 use Rattle.gob_device.specs.Causes.{RoseBy}
 use Rattle.gob_device.specs.Disk.{Files, Rises}
-use Rattle.gob_device.specs.Supply.{Held, Supply, with_pulls}
+use Rattle.gob_device.specs.Supply.{Held, with_pulls}
+use Rattle.gob_device.proofs.Supply.{with_none}
 use Rattle.gob_plan.specs.declared.plan.CommitScope.{CommitScope}
 use Rattle.gob_plan.specs.declared.plan.CommitScope.TheVariants as scope
 use Rattle.gob_plan.specs.declared.units.Unit.{Unit as WorkUnit}
@@ -66,9 +67,6 @@ same_state job o scope.Dataset = refl
 
 -- ---- the work
 
-as_before : (s : Supply) → with_pulls [] s ≡ s
-as_before s = ap (λ ps. record s { pulls = ps }) (append-nil s.pulls)
-
 fits : (job : Job) (l : Loaded) (long : List (List ℕ)) (out : Outcome) → HasNothing job l long out
     → OutcomeFits job l.state out
 fits job l long out idle = record {
@@ -94,7 +92,7 @@ idle_done job l cut out w none idle =
         too_long = idle.too_long;
         fits = fits job l cut.too_long out idle;
         told = λ s is. record {
-          pulls = is ∙ ap (λ t. Some t) (sym (as_before s)) ∙ ap (λ ps. Some (with_pulls ps s)) (sym (no_pulls s.held));
+          pulls = is ∙ ap (λ t. Some t) (with_none s) ∙ ap (λ ps. Some (with_pulls ps s)) (sym (no_pulls s.held));
           verdicts = ap verdicts_in idle.results ∙ sym (of_none s.held);
         };
         left = λ s is_s d is_d settled k keeps loaded. (

@@ -1,5 +1,4 @@
 pub mod Entering
-pub mod Named
 pub mod Readers
 mod Lasting
 mod Reading
@@ -17,6 +16,6 @@ mod Apart
 mod Given
 mod Staging
 mod Filing
-mod Worked
+pub mod Worked
 mod Idle
 mod Called

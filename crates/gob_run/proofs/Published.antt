@@ -4,6 +4,7 @@ use Rattle.std.proofs.Common.{Some, None, option_map}
 use Rattle.std.specs.declared.option.Option.{Option}
 use Rattle.std.specs.List.{Contains, flat_map}
 use Rattle.std.proofs.lemmas.List.Elements.{Contains-append_left}
+use Rattle.std.proofs.lemmas.Option.{same_Some}
 use Rattle.gob_bytes.specs.Paths.{is_published}
 use Rattle.gob_device.specs.Disk.{EachOf, File, Files, clean, contents_at, contents_of}
 use Rattle.gob_device.specs.Supply.{Held}
@@ -13,7 +14,6 @@ use Rattle.gob_ledger.specs.Expected.{IsPublished}
 use Rattle.gob_ledger.specs.Next.{Judged}
 use Rattle.gob_ledger.specs.State.{State}
 use Rattle.gob_ledger.proofs.Members.{first_in, flat_map_in, in_cases, in_flat_map, later_in, none_in}
-use Rattle.gob_ledger.proofs.OneState.{same_some}
 use Rattle.gob_history.specs.Laws.{BeginsWith, Lasting, LeftAlong}
 use Rattle.gob_history.specs.Runs.{GroupsLeft, after_group, done_in}
 use Rattle.gob_run.specs.Answers.{PublishesOnly}
@@ -48,7 +48,7 @@ published_more job given some all name content among p = record {
 file_with : (o : Option File) (content : List ℕ) → option_map contents_of o ≡ Some content
     → (f : File) × (o ≡ Some f) × (contents_of f ≡ content)
 file_with None content is = absurd (let no : None ≡ Some content = is in cc)
-file_with (Some f) content is = (f, refl, same_some (contents_of f) content is)
+file_with (Some f) content is = (f, refl, same_Some (contents_of f) content is)
 
 commit_only : (job : Job) (given : Held) (done : List Judged) (settled m n : Files) (o : Option State)
     (g : List Judged) → ((j : Judged) → Contains (flat_map (done_in job) (g ∷ [])) j → Contains done j)
@@ -59,7 +59,7 @@ commit_only job given done settled m n o g among left lasting only name f publis
     (λ same. only name f published (sym same ∙ here))
     (λ changed. ⊎_elim
     (λ gone. absurd (let no : None ≡ Some f = sym gone ∙ here in cc))
-    (λ new. inr (new.0, same_some f (clean new.0) (sym here ∙ new.1), from new.0 new.1))
+    (λ new. inr (new.0, same_Some f (clean new.0) (sym here ∙ new.1), from new.0 new.1))
     changed)
     (lasting name)
   where

@@ -5,6 +5,7 @@ use Rattle.std.proofs.Common.{None, codes}
 use Rattle.std.proofs.Common.{option_map}
 use Rattle.std.specs.declared.option.Option.{Option}
 use Rattle.gob_bytes.specs.Paths.{begins_with, is_published, sequence_name, under}
+use Rattle.gob_bytes.proofs.Paths.{sequence_unpublished}
 use Rattle.gob_device.specs.Disk.{EachOf, Files, contents_at, contents_of}
 use Rattle.gob_device.specs.Supply.{Held}
 use Rattle.gob_device.proofs.Trail.{each-map}
@@ -13,12 +14,11 @@ use Rattle.gob_ledger.specs.State.{State}
 use Rattle.gob_recovery.specs.Settle.{Settles}
 use Rattle.gob_history.specs.Runs.{Readable}
 use Rattle.gob_history.specs.Sound.{IsDurable, SoundIn}
-use Rattle.gob_history.proofs.Fronts.{published_unstaged, under_front}
+use Rattle.gob_history.proofs.Fronts.{published_unstaged}
 use Rattle.gob_history.proofs.Steadied.{steadied}
 use Rattle.gob_seq.specs.Maps.{SettlesByName}
 use Rattle.gob_run.specs.Answers.{ReadersOfSettling}
 use Rattle.gob_run.proofs.Entering.{settled_of}
-use Rattle.gob_commit.proofs.Reading.{sequence_unpublished}
 
 -- a published file of a steady map is clean, and expected of its state
 pub durable_readable : (job : List ℕ) (archive : Held) (o : Option State) (m : Files) → IsDurable job archive o m

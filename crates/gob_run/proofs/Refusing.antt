@@ -1,7 +1,8 @@
 -- A run that is refused, or stopped, before its first pull: what it answers, and what it leaves.
 use Rattle.std.proofs.Common.{◌≡◌, ◌⊎◌, ⊎_elim, inl, inr, ℕ, List, [], ◌++◌, refl, sym, ap, subst, ◌∙◌, Some, None}
 use Rattle.std.proofs.Common.{IfSome}
-use Rattle.std.proofs.Common.{append-nil, option_map, arith, ◌≤◌}
+use Rattle.std.proofs.Common.{option_map, arith, ◌≤◌}
+use Rattle.std.proofs.lemmas.Option.{same_Some}
 use Rattle.std.specs.List.{IsDistinct, flat_map}
 use Rattle.std.specs.declared.option.Option.{Option}
 use Rattle.std.specs.declared.result.Result.TheVariants.{Err}
@@ -9,8 +10,9 @@ use Rattle.gob_bytes.specs.Paths.{under}
 use Rattle.gob_bytes.specs.Tables.{Table}
 use Rattle.gob_device.specs.Disk.{AddsMaps, Along, Both, Disk, EachOf, Files, Went, last_map}
 use Rattle.gob_device.specs.Causes.{Rose}
-use Rattle.gob_device.specs.Supply.{Held, Supply, with_pulls}
+use Rattle.gob_device.specs.Supply.{Held, Supply}
 use Rattle.gob_device.proofs.Trail.{both_map, each-map, maps_map}
+use Rattle.gob_device.proofs.Supply.{with_none}
 use Rattle.gob_meaning.specs.Job.{Job}
 use Rattle.gob_ledger.specs.Delta.{KeepsAs, state_of}
 use Rattle.gob_ledger.specs.Marks.{Marks}
@@ -19,7 +21,7 @@ use Rattle.gob_ledger.specs.Turns.{pulls_in, turns_of}
 use Rattle.gob_ledger.specs.Units.{UnitsFit, next_of}
 use Rattle.gob_ledger.proofs.Members.{none_in}
 use Rattle.gob_ledger.proofs.OneDamage.{damage_is_one}
-use Rattle.gob_ledger.proofs.OneState.{keeps_one, same_some}
+use Rattle.gob_ledger.proofs.OneState.{keeps_one}
 use Rattle.gob_recovery.specs.Commits.{OnlyBelow}
 use Rattle.gob_recovery.proofs.Damaged.{one_damage}
 use Rattle.gob_recovery.proofs.Spelled.{to_one}
@@ -134,9 +136,6 @@ early_published job old new early d in_old =
             (published_apart job.name name published))) t.2.holds.1.0;
       },
     )
-
-with_none : (s : Supply) → s ≡ with_pulls [] s
-with_none s = ap (λ ps. record s { pulls = ps }) (sym (append-nil s.pulls))
 
 early_pulls : (job : Job) (old new : World) → NoPull old new → WhereSupplied (PullsAre job []) old new
 early_pulls job old new none s in_supply = (
@@ -374,7 +373,7 @@ shrunk_one : (job : Job) (o : Option State) (s : Supply) (part name : List ℕ) 
     ≡ Shrunk name at long
 shrunk_one job o s part name next size at long a b =
     let parts : Table Marks = (state_or_empty job o).parts in
-    let same : (part, size) ≡ (name, long) = same_some (part, size) (name, long) (sym a.first ∙ b.first) in
+    let same : (part, size) ≡ (name, long) = same_Some (part, size) (name, long) (sym a.first ∙ b.first) in
     let named : part ≡ name = ap (λ (e : List ℕ × ℕ). e.0) same in
     let sized : size ≡ long = ap (λ (e : List ℕ × ℕ). e.1) same in
     let taken : next ≡ at = a.taken ∙ ap (next_of parts) named ∙ sym b.taken in

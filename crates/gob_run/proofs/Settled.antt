@@ -3,6 +3,7 @@ use Rattle.std.proofs.Common.{◌≡◌, inl, inr, ℕ, ◌≤◌, List, refl, s
 use Rattle.std.specs.declared.option.Option.{Option}
 use Rattle.std.specs.declared.result.Result.{Result}
 use Rattle.std.specs.declared.result.Result.TheVariants.{Err}
+use Rattle.gob_bytes.proofs.Options.{if_both, always}
 use Rattle.gob_device.specs.Disk.{AddsMaps, Along, Both, Disk, EachFrom, EachOf, Files, Went}
 use Rattle.gob_device.proofs.Causes.{rose_after}
 use Rattle.gob_device.proofs.Trail.{each-map}
@@ -15,7 +16,7 @@ use Rattle.gob_seq.specs.Faults.{Damages, RoseIfSettleFailed}
 use Rattle.gob_seq.specs.Maps.{EndsBy, ImagesSettleTheSame, OnlyUnstages, SettlesByName}
 use Rattle.gob_seq.specs.declared.faults.SettleFault.{SettleFault}
 use Rattle.gob_seq.specs.declared.faults.SettleFault.TheVariants as settle_fault
-use Rattle.gob_seq.proofs.Trails.{always, if_both, maps_both}
+use Rattle.gob_seq.proofs.Trails.{maps_both}
 use Rattle.gob_segments.specs.Loading.{BlamesDamage, IsKept, RoseIfLoadFailed}
 use Rattle.gob_segments.specs.declared.change.Loaded.{Loaded}
 use Rattle.gob_segments.specs.declared.faults.LoadFault.{LoadFault}

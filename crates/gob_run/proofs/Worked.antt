@@ -5,9 +5,10 @@ use Rattle.std.specs.List.{Contains}
 use Rattle.gob_bytes.specs.Paths.{staging, under}
 use Rattle.gob_device.specs.Causes.{Rose, RoseBy}
 use Rattle.gob_device.specs.Disk.{AddsMaps, Along, Both, Disk, EachOf, Files, Rises, Went, last_map}
-use Rattle.gob_device.specs.Supply.{Held, Supply, with_pulls}
+use Rattle.gob_device.specs.Supply.{Held, Supply}
 use Rattle.gob_device.proofs.Trail.{Join, along_map, along_nothing, along_then, each-last, last-append, maps_map}
 use Rattle.gob_device.proofs.Trail.{maps_nothing, maps_then}
+use Rattle.gob_device.proofs.Supply.{with_none}
 use Rattle.gob_plan.specs.declared.units.Unit.{Unit as WorkUnit}
 use Rattle.gob_plan.specs.declared.units.UnitResult.{UnitResult}
 use Rattle.gob_meaning.specs.Job.{Job}
@@ -241,7 +242,7 @@ pub record TurnsEnd (job : Job) (cut : Cut) (failing : List ℕ) (results : List
   pub given : (held : Held) × AllGivenIn job held cut.units results new.disk
   pub gave_up : RoseBy (given_up_in results * (job.max_retries + 1)) old.source_faults new.source_faults
 
--- the volume afterwards
+-- the world with this volume
 abbrev pub with_volume : World → Option Disk → ℕ → World
 with_volume w disk faults = record w { disk = disk; volume_faults = faults }
 
@@ -253,9 +254,6 @@ pub record CommitsSay (job : Job) (rules : CommitRules) (l : Loaded) (units : Li
   pub goes_on : old.volume_faults ≤ faults
 
 -- ---- where the work stops
-
-no_pulls : (s : Supply) → with_pulls [] s ≡ s
-no_pulls s = ap (λ ps. record s { pulls = ps }) (append-nil s.pulls)
 
 -- no turn was had
 pub stopped_at_first : (job : Job) (l : Loaded) (cut : Cut) (w : World) → Worked job [] l cut (Err Memory) w w
@@ -269,7 +267,7 @@ stopped_at_first job l cut w = record {
   pulls = λ s is. record {
     pulls = [];
     rest = pulls_in (turns_of job s.held cut.units []);
-    supply = is ∙ ap (λ t. Some t) (sym (no_pulls s));
+    supply = is ∙ ap (λ t. Some t) (with_none s);
     turns = refl;
   };
   pulled = pulled_nothing w.supply;

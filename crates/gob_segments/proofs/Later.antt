@@ -3,7 +3,7 @@ use Rattle.std.proofs.Common.{◌≡◌, ⊎_elim, ℕ, ◌+◌, ◌<◌, ◌≤
 use Rattle.std.proofs.Common.{List, [], ◌∷◌, ◌++◌, length, drop, get_or, refl, sym, ap, subst, ◌∙◌, append_assoc}
 use Rattle.std.proofs.Common.{append-nil, zero-add, arith}
 use Rattle.std.specs.List.{Contains, filter, flat_map, list_any}
-use Rattle.std.proofs.lemmas.Bool.{ltb-false, lt-ltb, le-ltb}
+use Rattle.std.proofs.lemmas.Bool.{ltb-false, lt-ltb, le-ltb, not-true}
 use Rattle.std.proofs.lemmas.Bool.Decides.{nat_tests}
 use Rattle.std.proofs.lemmas.List.Elements.{filter_agree}
 use Rattle.gob_ledger.specs.Marks.{Marks, Span, Done, Tiled, InOrder, has, is_done, done_spans}
@@ -15,6 +15,7 @@ use Rattle.gob_state.proofs.SettingLemmas.{at_drop}
 use Rattle.gob_state.proofs.WriteLemmas.{dropped_all}
 use Rattle.gob_segments.specs.Written.{begun_in, done_from, new_done, new_open}
 use Rattle.gob_segments.proofs.Changed.{any_some, changed_marks-is, some_any}
+use Rattle.gob_segments.proofs.Put.{none_kept}
 
 -- ---- parts of ranges in order
 
@@ -61,10 +62,6 @@ or_either : (P : Type 0) (a b : Bool) → (a || b) ≡ true → (a ≡ true → 
 or_either P true b e first second = first refl
 or_either P false b e first second = second e
 
-not_true : (b : Bool) → not b ≡ true → b ≡ false
-not_true true e = sym e
-not_true false e = refl
-
 -- the range begins in one of these, or at an offset or behind it
 abbrev pub is_free : List Span → ℕ → Done → Bool
 is_free ss next d = list_any (has d.span.lo) ss || not (nat_lt d.span.lo next)
@@ -88,7 +85,7 @@ gathered next from (s ∷ ss) ds (a, b, c) below rise =
         let r = any_some (has d.span.lo) ss h in
         omega (arith, (order_members s.hi ss r.0 c r.1).0, (within d.span.lo r.0 r.2).0))
         (λ h.
-        let over : next ≤ d.span.lo = ltb-false d.span.lo next (not_true (nat_lt d.span.lo next) h) in
+        let over : next ≤ d.span.lo = ltb-false d.span.lo next (not-true (nat_lt d.span.lo next) h) in
         omega (arith, over, below s (first_in s ss s refl)))
 
 open-times : (at : ℕ) (ss : List Span) → list_any (has at) ss ≡ nat_lt 0 (times at ss)
@@ -155,12 +152,6 @@ parts_all s old a xs i past inv =
     sym (append-nil a) ∙ ap (λ (ys : List Span). a ++ flat_map s ys) (sym (dropped_all xs i past)) ∙ inv
 
 -- ---- marks that are as they were
-
-none_kept : {X : Type 0} (p : X → Bool) (xs : List X) → ((x : X) → Contains xs x → p x ≡ false) → filter p xs ≡ []
-none_kept p [] none = refl
-none_kept {X} p (x ∷ xs) none =
-    ap (λ b. cond b (x ∷ filter p xs) (filter p xs)) (none x (first_in x xs x refl))
-    ∙ none_kept p xs (λ y h. none y (later_in x xs y h))
 
 abbrev Within : List Done → List Done → Type 0
 Within xs ys = (d : Done) → Contains xs d → Contains ys d

@@ -10,6 +10,7 @@ use Rattle.std.specs.List.{Contains}
 use Rattle.std.proofs.lemmas.List.{take_all, take-append-drop}
 use Rattle.std.proofs.Math.Seq.{drop-cons, take-suc}
 use Rattle.gob_bytes.proofs.Tables.{rising_tail}
+use Rattle.gob_bytes.proofs.Options.{if_both, if_two, if_three}
 use Rattle.gob_bytes.specs.Paths.{begins_with, delta_folder, delta_name, state_name}
 use Rattle.gob_bytes.specs.Tables.{name_cmp, IsInByteOrder}
 use Rattle.gob_device.specs.Names.{IsPathname}
@@ -31,26 +32,6 @@ use Rattle.gob_segments.proofs.Named.{change_named}
 use Rattle.gob_segments.specs.declared.change.Loaded.{Loaded}
 use Rattle.gob_segments.specs.declared.faults.LoadFault.{LoadFault}
 use Rattle.gob_segments.specs.declared.faults.LoadFault.TheVariants as load_fault
-
--- ---- where a volume tells
-
-pub if_both : {P Q : Disk → Type 0} (o : Option Disk) → ((d : Disk) → P d → Q d) → IfSome o P → IfSome o Q
-if_both None f p = tt
-if_both (Some d) f p = f d p
-
-pub if_two : {P Q R : Disk → Type 0} (o : Option Disk) → ((d : Disk) → P d → Q d → R d) → IfSome o P → IfSome o Q
-    → IfSome o R
-if_two None f p q = tt
-if_two (Some d) f p q = f d p q
-
-pub if_three : {P Q R S : Disk → Type 0} (o : Option Disk) → ((d : Disk) → P d → Q d → R d → S d) → IfSome o P
-    → IfSome o Q → IfSome o R → IfSome o S
-if_three None f p q r = tt
-if_three (Some d) f p q r = f d p q r
-
-pub always : {P : Disk → Type 0} (o : Option Disk) → ((d : Disk) → P d) → IfSome o P
-always None f = tt
-always (Some d) f = f d
 
 -- ---- the states of changes that lead on
 

@@ -1,5 +1,5 @@
 -- Partitions of a change that are put over a table, one after the other.
-use Rattle.std.proofs.Common.{◌≡◌, ◌⊎◌, inl, inr, ⊎_elim, ℕ, ◌+◌, ◌<◌, ◌≤◌, ◌^◌, Bool, true, false, cond, nat_lt, List}
+use Rattle.std.proofs.Common.{◌≡◌, ◌⊎◌, inl, inr, ⊎_elim, ℕ, ◌+◌, ◌<◌, ◌≤◌, ◌^◌, Bool, true, false, cond, List}
 use Rattle.std.proofs.Common.{[], ◌∷◌, ◌++◌, map, length, refl, sym, ap, subst, ◌∙◌, Some, None, IfSome, unwrap_or}
 use Rattle.std.proofs.Common.{append_assoc, codes, arith}
 use Rattle.std.specs.declared.cmp.Ordering.TheVariants.{Less}
@@ -7,7 +7,7 @@ use Rattle.std.specs.declared.option.Option.{Option}
 use Rattle.std.specs.List.{AllByRecursion, Contains, filter, flat_map}
 use Rattle.std.specs.Option.{option_and_then, option_or}
 use Rattle.std.specs.Str.{bytes_eq}
-use Rattle.std.proofs.lemmas.Bool.{cases_Bool, cases_lt, ltb-false, true≢false}
+use Rattle.std.proofs.lemmas.Bool.{cases_Bool, cases_lt, true≢false}
 use Rattle.std.proofs.lemmas.List.Elements.{Contains-append_cases, Contains-append_left, Contains-append_right}
 use Rattle.std.proofs.lemmas.Option.{same_Some}
 use Rattle.gob_bytes.proofs.Tables.{at-with_name, at_from_member, less_apart, less_then, member_from_at, none_below}
@@ -21,6 +21,8 @@ use Rattle.gob_ledger.proofs.DeltaNames.{name_above}
 use Rattle.gob_ledger.proofs.Members.{none_in, first_in, later_in, in_cases, in_filter, filter_in, in_map, map_in}
 use Rattle.gob_ledger.proofs.Merging.{is_new, is_new_owed, unchanged}
 use Rattle.gob_ledger.proofs.Ranges.{done_below, order_members, owed_below, tiled_none}
+use Rattle.gob_ledger.proofs.ReadingChange.{not_positive}
+use Rattle.gob_ledger.proofs.Following.{follow_itself}
 use Rattle.gob_marks.specs.Changed.{marks_in}
 use Rattle.gob_state.proofs.Along.{Along, OneMore, all_read, at_start, one_missing, one_more}
 use Rattle.gob_state.proofs.PartLemmas.{names_push, order_front}
@@ -30,7 +32,7 @@ use Rattle.gob_state.specs.Parts.{head_text, IsHead, IsPart, NoPart, part_rest}
 use Rattle.gob_state.specs.Ranges.{AreMarks, NoRange, ranges_text}
 use Rattle.gob_state.specs.Reads.{ReadsSpelling}
 use Rattle.gob_text.specs.Words.{GoesOnAtAll, IsName, TakesText}
-use Rattle.gob_segments.proofs.Put.{follow_itself, none_changed}
+use Rattle.gob_segments.proofs.Put.{none_changed}
 use Rattle.gob_segments.proofs.PutLines.{ranges_some}
 use Rattle.gob_segments.specs.Applied.{AreParted, IsChange, MarksAfter, PartsAfter, change_rest, changed_entry}
 use Rattle.gob_segments.specs.Applied.{changed_table}
@@ -469,9 +471,6 @@ only_these v n t old rest u last order some =
         e ∙ sym (ap (option_and_then (λ x. cond (has_changed t (q, x)) (Some x) None))
         (some.at q ∙ option_none (at_name some.changed q) (at_name t q) e ∙ f)
         ∙ ap (λ c. cond c (Some m) None) (not_changed t q m f))
-
-not_positive : (k : ℕ) → nat_lt 0 k ≡ false → k ≡ 0
-not_positive k e = let z : k ≤ 0 = ltb-false 0 k e in omega (arith, z)
 
 -- a partition that hasn't changed was there
 was_there : (v : Version) (n : ℕ) (t k : Table Marks) (q : List ℕ) (m : Marks) → AreParted v n t → PartsAfter v n t k

@@ -7,6 +7,7 @@ use Rattle.std.specs.List.{AllByRecursion, IsDistinct, flat_map, list_any}
 use Rattle.std.specs.Str.{bytes_eq}
 use Rattle.std.proofs.lemmas.Bool.{true≢false}
 use Rattle.std.proofs.lemmas.Option.{same_Some}
+use Rattle.std.proofs.Math.Seq.{drop-append_seam}
 use Rattle.gob_bytes.proofs.Tables.{name_itself, same_name, two_names}
 use Rattle.gob_bytes.specs.Words.{numbered_line}
 use Rattle.gob_ledger.specs.Spelling.{IsKeptPipeline, version_1, version_2, pipeline_part}
@@ -36,10 +37,6 @@ drop_itself : (ps : List (List ℕ)) → drop (length ps) ps ≡ []
 drop_itself [] = refl
 drop_itself (p ∷ ps) = drop_itself ps
 
-drop_front : (ps qs : List (List ℕ)) → drop (length ps) (ps ++ qs) ≡ qs
-drop_front [] qs = refl
-drop_front (p ∷ ps) qs = drop_front ps qs
-
 abbrev count_text : ℕ → List ℕ
 count_text n = numbered_line (codes "pipelines") (n ∷ [])
 
@@ -51,7 +48,8 @@ none_text ps qs e =
 one_text : (ps qs : List (List ℕ)) (p : List ℕ) → qs ≡ ps ++ p ∷ []
     → later_text version_2 ps qs ≡ count_text 1 ++ pipeline_part p
 one_text ps qs p e =
-    ap (λ ns. count_text (length ns) ++ flat_map pipeline_part ns) (ap (drop (length ps)) e ∙ drop_front ps (p ∷ []))
+    ap (λ ns. count_text (length ns) ++ flat_map pipeline_part ns)
+    (ap (drop (length ps)) e ∙ drop-append_seam ps (p ∷ []))
     ∙ ap (λ x. count_text 1 ++ x) (append-nil (pipeline_part p))
 
 abbrev CountReads : List ℕ → List ℕ → Option ℕ → Type 0

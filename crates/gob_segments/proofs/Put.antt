@@ -14,16 +14,17 @@ use Rattle.gob_ledger.specs.Delta.{MarksFollow, changed_marks}
 use Rattle.gob_ledger.proofs.InLine.{span_in}
 use Rattle.gob_ledger.proofs.Members.{none_in, first_in, later_in, in_cases, in_filter, filter_in, in_map, map_in}
 use Rattle.gob_ledger.proofs.Merging.{any_done, any_span, done_any, filter_order, is_new, is_new_owed, same_sorted}
-use Rattle.gob_ledger.proofs.Merging.{span_any, spans_in, starts_apart}
-use Rattle.gob_ledger.proofs.Ranges.{covered-is, done_below, inside, order_append, order_filter, order_from}
+use Rattle.gob_ledger.proofs.Merging.{span_any, starts_apart}
+use Rattle.gob_ledger.proofs.Ranges.{covered-is, done_below, inside, order_append, order_filter, order_from, spans}
 use Rattle.gob_ledger.proofs.Ranges.{order_members, owed_below, owed_free, same_itself, span_is, tiled_done, tiled_owed}
 use Rattle.gob_ledger.proofs.Ranges.{times, times_some, within}
-use Rattle.gob_ledger.proofs.Reading.{gathered}
+use Rattle.gob_ledger.proofs.Reading.{gathered, gathered_mixed}
 use Rattle.gob_ledger.proofs.StateLines.{Range, lo_of, mixed, mixed_rises, put_range, rises_from}
 use Rattle.gob_ledger.proofs.Tiling.{in_insert, insert_in}
+use Rattle.gob_ledger.proofs.Following.{follow_itself}
 use Rattle.gob_marks.proofs.Tiles.{tiled_new_done}
 use Rattle.gob_marks.specs.Changed.{with_new_done}
-use Rattle.gob_state.proofs.RangeLemmas.{gathered_back, range_of, small_hi}
+use Rattle.gob_state.proofs.RangeLemmas.{range_of, small_hi}
 use Rattle.gob_state.specs.Ranges.{AreMarks, IndexIs, IsRangeLine}
 use Rattle.gob_state.specs.declared.ranges.RangeLine.{RangeLine}
 use Rattle.gob_state.specs.declared.ranges.RangeLine.TheVariants.{Done, Open}
@@ -56,7 +57,7 @@ filter_under {X} p q (x ∷ xs) less = cases (q x) refl (p x) refl (filter_under
     cases false e true f rest = absurd (true≢false (sym (less x f) ∙ e))
     cases false e false f rest = rest
 
-spans_push : (ds : List marks.Done) (d : marks.Done) → spans_in (ds ++ d ∷ []) ≡ spans_in ds ++ d.span ∷ []
+spans_push : (ds : List marks.Done) (d : marks.Done) → spans (ds ++ d ∷ []) ≡ spans ds ++ d.span ∷ []
 spans_push [] d = refl
 spans_push (e ∷ ds) d = ap (λ (ss : List Span). e.span ∷ ss) (spans_push ds d)
 
@@ -148,7 +149,7 @@ changed_ranges b m = mixed (changed_marks b m).finished (changed_marks b m).owed
 pub parted : (b m : Marks) → Tiled m
     → gathered (changed_ranges b m)
     ≡ record { next = 0; finished = (changed_marks b m).finished; owed = (changed_marks b m).owed }
-parted b m tiled = gathered_back 0 (changed_marks b m).finished (changed_marks b m).owed
+parted b m tiled = gathered_mixed 0 (changed_marks b m).finished (changed_marks b m).owed
     (filter_order (is_new b) 0 m.finished tiled.finished)
 
 -- a changed done range is one of the later marks, and none of the earlier ones
@@ -263,28 +264,19 @@ pub record Put (v : Version) (n : ℕ) (b m : Marks) (from : ℕ) (xs : List Ran
   pub top : from ≤ m.next
   pub from_is : (from ≡ 0) ⊎ ((r : Range) × Contains xs r × (from ≡ lo_of r + 1))
 
-same_none : {X : Type 0} (p : X → Bool) (xs : List X) → ((x : X) → Contains xs x → p x ≡ false) → filter p xs ≡ []
-same_none p [] none = refl
-same_none {X} p (x ∷ xs) none =
+pub none_kept : {X : Type 0} (p : X → Bool) (xs : List X) → ((x : X) → Contains xs x → p x ≡ false) → filter p xs ≡ []
+none_kept p [] none = refl
+none_kept {X} p (x ∷ xs) none =
     ap (λ b. cond b (x ∷ filter p xs) (filter p xs)) (none x (first_in x xs x refl))
-    ∙ same_none p xs (λ y h. none y (later_in x xs y h))
+    ∙ none_kept p xs (λ y h. none y (later_in x xs y h))
 
 -- marks have changed in nothing from themselves
 pub none_changed : (m : Marks) → changed_marks m m ≡ record { next = m.next; finished = []; owed = [] }
 none_changed m =
-    let done : (changed_marks m m).finished ≡ [] = same_none (is_new m) m.finished
+    let done : (changed_marks m m).finished ≡ [] = none_kept (is_new m) m.finished
     (λ d h. ap not (done_any d m.finished h)) in
-    let owed : (changed_marks m m).owed ≡ [] = same_none (is_new_owed m) m.owed (λ s h. ap not (span_any s m.owed h)) in
+    let owed : (changed_marks m m).owed ≡ [] = none_kept (is_new_owed m) m.owed (λ s h. ap not (span_any s m.owed h)) in
     λ i. record { next = m.next; finished = done i; owed = owed i }
-
-pub follow_itself : (m : Marks) → MarksFollow m m
-follow_itself m = record {
-  next = omega arith;
-  finished = λ d h. h;
-  owed = λ s h. inl h;
-  new_done = λ d h. inl h;
-  new_owed = λ s h. inl h;
-}
 
 pub none_put : (v : Version) (n : ℕ) (b : Marks) → AreMarks v n b → Put v n b b 0 []
 none_put v n b are = record {
@@ -410,11 +402,11 @@ grows_done v n b m from xs d tiled p at some =
     }
 
 -- a range that comes behind another begins where that ends, or behind it
-ends_before : (ds : List marks.Done) (x d : marks.Done) → InOrder 0 (spans_in ds) → Contains ds x → Contains ds d
+ends_before : (ds : List marks.Done) (x d : marks.Done) → InOrder 0 (spans ds) → Contains ds x → Contains ds d
     → x.span.lo < d.span.lo → x.span.hi ≤ d.span.lo
 ends_before ds x d order h k less = ⊎_elim
     (λ over. absurd (
-    let some = (order_members 0 (spans_in ds) d.span order (map_in (λ (e : marks.Done). e.span) ds d k)).1 in
+    let some = (order_members 0 (spans ds) d.span order (map_in (λ (e : marks.Done). e.span) ds d k)).1 in
     let same = one_holds (λ (e : marks.Done). e.span) d.span.lo 0 ds x d order h k
     (inside d.span.lo x.span (omega (arith, less)) over) (inside d.span.lo d.span (omega arith) some) in
     let level : x.span.lo ≡ d.span.lo = ap (λ (e : marks.Done). e.span.lo) same in omega (arith, less, level)))
@@ -445,7 +437,7 @@ grows_commit v n b m from xs d tiled p low owing =
     ((changed_marks b m).finished ++ d ∷ [])
     (filter_order (is_new b) 0 after.finished ta.finished)
     (subst (InOrder 0) (sym (spans_push (changed_marks b m).finished d))
-    (order_append 0 (spans_in (changed_marks b m).finished) d.span
+    (order_append 0 (spans (changed_marks b m).finished) d.span
     (filter_order (is_new b) 0 m.finished tm.finished)
     (λ t h.
     let r = in_map (λ (e : marks.Done). e.span) (changed_marks b m).finished t h in

@@ -10,7 +10,7 @@ use Rattle.gob_ledger.specs.Spelling.{Version}
 use Rattle.gob_ledger.specs.Units.{same_span}
 use Rattle.gob_ledger.specs.Delta.{MarksFollow, changed_marks}
 use Rattle.gob_ledger.proofs.Members.{none_in, first_in, later_in, in_cases, in_map, map_in}
-use Rattle.gob_ledger.proofs.Merging.{merged, merged_is, span_any, spans_in, map_same}
+use Rattle.gob_ledger.proofs.Merging.{merged, merged_is, span_any, map_same}
 use Rattle.gob_ledger.proofs.Ranges.{covered-is, done_below, inside, one_in, order_members, owed_below, owed_free}
 use Rattle.gob_ledger.proofs.Ranges.{times, times_some, within}
 use Rattle.gob_ledger.proofs.Reading.{gathered}

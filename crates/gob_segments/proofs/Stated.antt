@@ -18,7 +18,7 @@ use Rattle.gob_ledger.specs.Delta.{KeepsPipelines, LeadsTo, ReadsAsChange, chang
 use Rattle.gob_ledger.proofs.Changes.{all_member}
 use Rattle.gob_ledger.proofs.StateLines.{from_members}
 use Rattle.gob_ledger.proofs.ReadingChange.{fits_after}
-use Rattle.gob_state.proofs.FileLemmas.{no_branch_in_parts, no_part_at_end, proper_from, rest_of}
+use Rattle.gob_state.proofs.FileLemmas.{no_branch_in_parts, no_part_at_end, proper_from, rest_of, code_of, version_back}
 use Rattle.gob_state.proofs.Steps.{Pairing, both_read, first_missing, is_missing, is_there, no_more, not_even, passed}
 use Rattle.gob_state.proofs.Steps.{refused, second_missing}
 use Rattle.gob_state.specs.Counts.{AreTotals, NoBranch}
@@ -36,14 +36,6 @@ use Rattle.gob_segments.specs.Applied.{counted_text_over}
 use Rattle.gob_segments.specs.Applied.{front_text, later_text, rest_text_over, state_with}
 
 -- ---- versions
-
-abbrev pub code_of : Version → CodeVersion
-code_of version_1 = First
-code_of version_2 = Second
-
-pub version_back : (v : Version) → version_of (code_of v) ≡ v
-version_back version_1 = refl
-version_back version_2 = refl
 
 -- ---- the pairs
 

@@ -6,15 +6,16 @@ use Rattle.std.specs.List.{AllByRecursion}
 use Rattle.std.specs.Str.{bytes_eq}
 use Rattle.std.proofs.lemmas.Slice.Eq.{bytes_eq-Decides}
 use Rattle.gob_bytes.specs.Paths.{begins_with, staging}
+use Rattle.gob_bytes.proofs.Options.{if_both}
 use Rattle.gob_device.specs.Disk.{AddsMaps, Along, Disk, File, Files, IsListing, after_remove}
 use Rattle.gob_recovery.specs.Commits.{OnlyBelow}
 use Rattle.gob_recovery.specs.Sequence.{remove}
 use Rattle.gob_recovery.specs.Settle.{do_steps, without_staging}
-use Rattle.gob_recovery.proofs.Again.{Off, same, steps_off}
+use Rattle.gob_recovery.proofs.Again.{Off, steps_off}
 use Rattle.gob_recovery.proofs.Commits.{apart_below}
 use Rattle.gob_recovery.proofs.Opened.{steps_still}
 use Rattle.gob_seq.specs.Maps.{EndsAs, FrontIsDone}
-use Rattle.gob_seq.proofs.Trails.{along_known, if_both, maps_known}
+use Rattle.gob_seq.proofs.Trails.{along_known, maps_known}
 
 gone_at : (name x : List ℕ) (m : Files) → bytes_eq name x ≡ true → after_remove x m name ≡ None
 unfolding after_remove

@@ -5,13 +5,14 @@ use Rattle.std.proofs.Common.{arith, add-one}
 use Rattle.std.specs.declared.option.Option.{Option}
 use Rattle.std.specs.declared.result.Result.{Result}
 use Rattle.std.proofs.lemmas.List.{take_all}
+use Rattle.gob_bytes.proofs.Options.{if_both}
 use Rattle.gob_device.specs.Disk.{Files, Disk, AddsMaps, Along, Changes, EachOf, Whole}
 use Rattle.gob_device.specs.Disk.{after_remove, after_rename, last_map}
 use Rattle.gob_device.proofs.Trail.{each-append, each-map, maps_map, maps_nothing, maps_then, last-append}
 use Rattle.gob_recovery.specs.Sequence.{CommitStep, move}
 use Rattle.gob_recovery.specs.Settle.{do_step, do_steps, moved_where}
 use Rattle.gob_seq.specs.Maps.{EndsAs, Finishes, FrontIsDone}
-use Rattle.gob_seq.proofs.Trails.{along_known, along_whole, if_both, maps_both, maps_known}
+use Rattle.gob_seq.proofs.Trails.{along_known, along_whole, maps_both, maps_known}
 
 -- one element more of a list of steps
 pub one_more : {X : Type 0} (f : X → CommitStep) (xs : List X) (i : ℕ) (x : X) → i < length xs → x ≡ get_or xs i x

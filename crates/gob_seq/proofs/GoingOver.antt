@@ -7,6 +7,7 @@ use Rattle.std.proofs.lemmas.List.{append-nil}
 use Rattle.std.proofs.lemmas.Bool.{true≢false}
 use Rattle.std.proofs.lemmas.Slice.Eq.{bytes_eq-Decides}
 use Rattle.gob_bytes.specs.Paths.{staging, sequence_name}
+use Rattle.gob_bytes.proofs.Options.{if_both}
 use Rattle.gob_device.specs.Disk.{Files, Disk, AddsMaps, AddsOne, Along, Both, EachOf, Rises, Went, Whole}
 use Rattle.gob_device.specs.Disk.{after_append, after_create, after_remove, after_rename, after_sync, clean, last_map}
 use Rattle.gob_device.specs.Disk.{synced_file, with_more}
@@ -19,7 +20,7 @@ use Rattle.gob_recovery.proofs.Commits.{CanCommit, Opens, apart_below, below_sam
 use Rattle.gob_recovery.proofs.Commits.{renamed_opens, sequence_staged, sequences_apart, staged_settles, steps_go}
 use Rattle.gob_recovery.proofs.Commits.{without_alike, written}
 use Rattle.gob_seq.specs.Maps.{EndsAs, Finishes, GoesOver, IsReady, SettlesWell, after_write, finished_files}
-use Rattle.gob_seq.proofs.Trails.{if_both, maps_both, maps_known}
+use Rattle.gob_seq.proofs.Trails.{maps_both, maps_known}
 
 pub can_commit : (job : List ℕ) (steps : List CommitStep) (m : Files) → WellFormed job steps → IsReady job steps m
     → CanCommit job steps m

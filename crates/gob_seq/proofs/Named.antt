@@ -10,15 +10,16 @@ use Rattle.std.proofs.lemmas.Slice.Eq.{bytes_eq-Decides}
 use Rattle.gob_bytes.specs.Paths.{begins_with, staging, sequence_name, under}
 use Rattle.gob_device.specs.Disk.{Files, after_remove}
 use Rattle.gob_device.specs.Names.{IsPathname, is_pathname}
-use Rattle.gob_device.proofs.Names.{name_before, name_bytes}
+use Rattle.gob_device.proofs.Names.{name_before}
 use Rattle.gob_recovery.specs.Commits.{OnlyBelow, staged_sequence}
-use Rattle.gob_recovery.specs.Sequence.{CommitStep, WellFormed, is_file_name, is_lasting, is_sequence_byte, is_staged}
+use Rattle.gob_recovery.specs.Sequence.{CommitStep, WellFormed, is_file_name, is_lasting, is_staged}
 use Rattle.gob_recovery.specs.Sequence.{move}
 use Rattle.gob_recovery.specs.Sequence.{names_in, remove, step_fits}
 use Rattle.gob_recovery.specs.Settle.{do_steps}
 use Rattle.gob_recovery.proofs.Again.{Off, steps_off}
 use Rattle.gob_recovery.proofs.Commits.{apart_below, sequence_staged}
 use Rattle.gob_recovery.proofs.Spelled.{name_of_remove, names_of_move}
+use Rattle.gob_recovery.proofs.Names.{file_pathname}
 use Rattle.gob_seq.specs.Maps.{Finishes}
 use Rattle.gob_seq.specs.Steps.{is_callable}
 
@@ -34,10 +35,6 @@ pub staged_is : (job : List ℕ) → under job (codes "stage/seq") ≡ staged_se
 staged_is job = sym (append_assoc job (47 ∷ codes "stage/") (codes "seq"))
 
 -- ---- the names of steps
-
-file_pathname : (name : List ℕ) → is_file_name name ≡ true → is_pathname name ≡ true
-file_pathname [] e = e
-file_pathname (b ∷ bs) e = name_bytes is_sequence_byte refl (b ∷ bs) e
 
 callable_each : (job : List ℕ) (steps : List CommitStep) → list_all (step_fits job) steps ≡ true
     → IsDistinct bytes_eq (flat_map names_in steps) → list_all is_callable steps ≡ true

@@ -4,11 +4,11 @@ use Rattle.std.proofs.Common.{option_map}
 use Rattle.std.specs.declared.option.Option.{Option}
 use Rattle.std.specs.List.{list_all}
 use Rattle.gob_bytes.specs.Paths.{sequence_name}
+use Rattle.gob_bytes.proofs.Options.{if_both, if_two}
 use Rattle.gob_device.specs.Disk.{Disk, File, Files, contents_at, contents_of}
 use Rattle.gob_recovery.specs.Sequence.{CommitStep, Reads}
 use Rattle.gob_recovery.specs.Settle.{IsDamaged, Open, can_do, lost, sequence}
 use Rattle.gob_seq.specs.Maps.{CanFinish, FirstLost}
-use Rattle.gob_seq.proofs.Trails.{if_both}
 
 no_file : (o : Option File) → None ≡ option_map contents_of o → o ≡ None
 no_file None e = refl
@@ -46,18 +46,13 @@ unread_damaged job name text bytes given o is told at read none = if_both o (λ 
     (λ steps reads. none steps (subst (λ b. Reads job b steps) (sym (at ∙ f.holds)) reads))))
     read
 
-both_some : {P Q R : Disk → Type 0} (o : Option Disk) → ((d : Disk) → P d → Q d → R d) → IfSome o P → IfSome o Q
-    → IfSome o R
-both_some None f p q = tt
-both_some (Some d) f p q = f d p q
-
 -- a source is lost
 pub lost_damaged : (job name text source bytes slice : List ℕ) (steps ss : List CommitStep) (o p : Option Disk)
     → name ≡ sequence_name job
     → text ≡ source → p ≡ o → ss ≡ steps → slice ≡ bytes → IfSome o (λ d. Some bytes ≡ contents_at d.files name)
     → Reads job slice steps → IfSome p (λ d. FirstLost d.files ss source) → IfSome o (λ d. IsDamaged job d.files text)
 lost_damaged job name text source bytes slice steps ss o p is told same given at read reads first =
-    both_some o (λ d e l. subst (IsDamaged job d.files) (sym told)
+    if_two o (λ d e l. subst (IsDamaged job d.files) (sym told)
     (lost l.before source l.target l.after
     (subst (Open job d.files) (sym given ∙ l.whole)
     (open_read job name bytes steps d.files is e (subst (λ b. Reads job b steps) at reads))) l.can l.cannot))
@@ -68,7 +63,7 @@ pub can_found : (job name bytes slice : List ℕ) (steps ss : List CommitStep) (
     → ss ≡ steps → slice ≡ bytes → IfSome o (λ d. Some bytes ≡ contents_at d.files name) → Reads job slice steps
     → IfSome p (λ d. list_all (can_do d.files) ss ≡ true) → IfSome o (λ d. CanFinish job d.files steps)
 can_found job name bytes slice steps ss o p is same given at read reads can =
-    both_some o (λ d e k. record {
+    if_two o (λ d e k. record {
       opened = open_read job name bytes steps d.files is e (subst (λ b. Reads job b steps) at reads);
       can = sym (ap (list_all (can_do d.files)) given) ∙ k;
     }) read (subst (λ q. IfSome q (λ d. list_all (can_do d.files) ss ≡ true)) same can)

@@ -4,6 +4,7 @@ use Rattle.std.proofs.Common.{None, IfSome}
 use Rattle.std.specs.declared.option.Option.{Option}
 use Rattle.gob_bytes.specs.Paths.{begins_with, sequence_name, staging}
 use Rattle.gob_bytes.proofs.Tables.{two_names}
+use Rattle.gob_bytes.proofs.Options.{if_both}
 use Rattle.gob_device.specs.Disk.{AddsMaps, AddsOne, Along, Disk, EachFrom, EachOf, Files, Whole, after_remove}
 use Rattle.gob_device.specs.Disk.{after_rename, last_map, put}
 use Rattle.gob_device.proofs.Trail.{along_map, each-append, each-last, each-map, maps_then}
@@ -17,7 +18,7 @@ use Rattle.gob_seq.specs.Maps.{CanFinish, CommitsByName, EndsAs, Finishes, Holds
 use Rattle.gob_seq.proofs.ByNames.{finish_maps}
 use Rattle.gob_seq.proofs.GoingOver.{WhereReady, finish_part, opened_map, opens}
 use Rattle.gob_seq.proofs.Resettled.{to_after}
-use Rattle.gob_seq.proofs.Trails.{along_known, if_both, maps_both}
+use Rattle.gob_seq.proofs.Trails.{along_known, maps_both}
 
 -- ---- steps that are done
 

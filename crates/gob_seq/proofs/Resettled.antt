@@ -5,6 +5,7 @@ use Rattle.std.specs.declared.option.Option.{Option}
 use Rattle.std.specs.declared.result.Result.{Result}
 use Rattle.std.specs.declared.result.Result.TheVariants.{Err}
 use Rattle.gob_bytes.specs.Paths.{staging, sequence_name}
+use Rattle.gob_bytes.proofs.Options.{if_both, always}
 use Rattle.gob_device.specs.Disk.{Files, File, Disk, AddsMaps, Along, last_map}
 use Rattle.gob_device.proofs.Causes.{rose_after}
 use Rattle.gob_device.proofs.Trail.{each-append, each-last, each-map, last-append, maps_then}
@@ -27,7 +28,7 @@ use Rattle.gob_seq.specs.declared.faults.SettleFault.TheVariants as settle_fault
 use Rattle.gob_seq.specs.Faults.{DamageDue, Damages, RoseIfFailed, RoseIfSettleFailed, settle_of_commit, settle_of_read}
 use Rattle.gob_seq.specs.Maps.{EndsBy, CanFinish, EndsAs, Finishes, SettlingGoesOn, ImagesSettleTheSame}
 use Rattle.gob_seq.specs.Maps.{SettlesUnstaged, finished_files}
-use Rattle.gob_seq.proofs.Trails.{along_known, always, at_told, if_both, maps_both, maps_known, maps_still}
+use Rattle.gob_seq.proofs.Trails.{along_known, at_told, maps_both, maps_known, maps_still}
 
 pub goes_same : (job : List ℕ) (m : Files) → SettlingGoesOn job m m
 goes_same job m = record { same = λ settled s. s; untorn = λ quiet. quiet }

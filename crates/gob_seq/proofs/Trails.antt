@@ -3,30 +3,12 @@ use Rattle.std.proofs.Common.{◌≡◌, inr, List, [], ◌∷◌, refl, sym, ap
 use Rattle.std.proofs.Common.{option_map}
 use Rattle.std.specs.declared.option.Option.{Option}
 use Rattle.std.specs.declared.result.Result.{Result}
-use Rattle.std.specs.declared.result.Result.TheVariants.{Ok, Err}
-use Rattle.std.specs.Prelude.{OnOk, OnErr}
 use Rattle.std.proofs.lemmas.List.{append-nil, append_cancel_left}
 use Rattle.gob_device.specs.Disk.{Files, Disk, AddsMaps, Along, Both, Changes, EachOf, Rises, Went, Whole}
 use Rattle.gob_device.specs.Disk.{after_change}
 use Rattle.gob_device.proofs.Trail.{along_change, each-map}
 use Rattle.gob_device.proofs.Trail.{maps_then, last-append}
 use Rattle.gob_seq.specs.Maps.{EndsAs}
-
-pub on_ok : {T E : Type 0} (r : Result T E) {P Q : Type 0} → (P → Q) → OnOk r P → OnOk r Q
-on_ok (Ok x) f p = f p
-on_ok (Err e) f p = tt
-
-pub on_err : {T E : Type 0} (r : Result T E) {P : Type 0} → P → OnErr r P
-on_err (Ok x) p = tt
-on_err (Err e) p = p
-
-pub if_both : {P Q : Disk → Type 0} (o : Option Disk) → ((d : Disk) → P d → Q d) → IfSome o P → IfSome o Q
-if_both None f p = tt
-if_both (Some d) f p = f d p
-
-pub always : {P : Disk → Type 0} (o : Option Disk) → ((d : Disk) → P d) → IfSome o P
-always None f = tt
-always (Some d) f = f d
 
 -- no call
 pub maps_still : (Q : Files → List Files → Type 0) (o : Option Disk) → IfSome o (λ d. Q d.files []) → AddsMaps Q o o

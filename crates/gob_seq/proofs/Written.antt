@@ -4,19 +4,15 @@ use Rattle.std.proofs.Common.{Some, None, option_map, IfSome, IsSome, is_some}
 use Rattle.std.specs.declared.option.Option.{Option}
 use Rattle.std.specs.declared.result.Result.{Result}
 use Rattle.gob_bytes.specs.Paths.{begins_with}
-use Rattle.gob_bytes.proofs.Tables.{two_names}
+use Rattle.gob_bytes.proofs.Tables.{two_names, name_itself}
 use Rattle.gob_device.specs.Disk.{Along, Changes, Disk, File, Files, OnlyAt, Torn, Whole, after_append, after_change}
 use Rattle.gob_device.specs.Disk.{after_create, after_rename, after_sync, clean, put, synced_file, with_more}
 use Rattle.gob_device.proofs.Trail.{along_change, along_map}
 use Rattle.gob_recovery.specs.Commits.{OnlyBelow}
-use Rattle.gob_recovery.proofs.Again.{same}
 use Rattle.gob_recovery.proofs.Commits.{below_renamed}
 
 only_put : (m : Files) (name : List ℕ) (f : Option File) → OnlyAt name m (put m name f)
 only_put m name f other apart = ap (λ b. cond b f (m other)) (two_names other name apart)
-
-pub only_then : (name : List ℕ) (m n k : Files) → OnlyAt name m n → OnlyAt name n k → OnlyAt name m k
-only_then name m n k a b other apart = b other apart ∙ a other apart
 
 created_step : (name : List ℕ) (m : Files) → OnlyAt name m (after_create name m)
 unfolding after_create
@@ -58,7 +54,7 @@ pub there_created : (o : Option Disk) (name : List ℕ)
 unfolding after_create
 there_created None name = tt
 there_created (Some d) name =
-    is_there _ (clean []) (ap (λ b. cond b (Some (clean [])) (d.files name)) (same name))
+    is_there _ (clean []) (ap (λ b. cond b (Some (clean [])) (d.files name)) (name_itself name))
 
 there_more : (bytes : List ℕ) (o : Option File) → IsSome o → IsSome (option_map (with_more bytes) o)
 there_more bytes None e = e
@@ -69,7 +65,7 @@ pub there_appended : (o : Option Disk) (name bytes : List ℕ) → IfSome o (λ 
 unfolding after_append
 there_appended None name bytes h = tt
 there_appended (Some d) name bytes h = subst (λ (o : Option File). IsSome o)
-    (sym (ap (λ b. cond b (option_map (with_more bytes) (d.files name)) (d.files name)) (same name)))
+    (sym (ap (λ b. cond b (option_map (with_more bytes) (d.files name)) (d.files name)) (name_itself name)))
     (there_more bytes (d.files name) h)
 
 pub there_synced : (o : Option Disk) (name : List ℕ) → IfSome o (λ d. IsSome (d.files name))
@@ -77,7 +73,7 @@ pub there_synced : (o : Option Disk) (name : List ℕ) → IfSome o (λ d. IsSom
 unfolding after_sync
 there_synced None name h = tt
 there_synced (Some d) name h = subst (λ (o : Option File). IsSome o)
-    (sym (ap (λ b. cond b (option_map synced_file (d.files name)) (d.files name)) (same name)))
+    (sym (ap (λ b. cond b (option_map synced_file (d.files name)) (d.files name)) (name_itself name)))
     (more (d.files name) h)
   where
     more : (o : Option File) → IsSome o → IsSome (option_map synced_file o)

@@ -12,11 +12,11 @@ use Rattle.std.proofs.lemmas.List.{append-nil, append_assoc, append_cancel_left}
 use Rattle.std.proofs.lemmas.Str.Parse.{IsNumeralModel, numerals_by_value, tells_all_ascii_digits}
 use Rattle.gob_bytes.specs.Paths.{attempt_folder, begins_with, staging, under}
 use Rattle.gob_bytes.proofs.Forms.{own}
+use Rattle.gob_bytes.proofs.Paths.{front_more}
 use Rattle.gob_device.specs.Disk.{Files}
 use Rattle.gob_device.specs.Names.{IsPathname, is_name_byte}
 use Rattle.gob_device.proofs.Names.{name_before, name_bytes}
 use Rattle.gob_recovery.specs.Commits.{OnlyBelow}
-use Rattle.gob_recovery.proofs.Commits.{front_more}
 use Rattle.gob_stage.specs.Laws.{Apart, AttemptsAreApart, AttemptsAreStaged, SameBelow}
 
 -- ---- the digits of a number

@@ -6,6 +6,7 @@ use Rattle.std.specs.List.{list_any}
 use Rattle.std.specs.Str.{bytes_eq}
 use Rattle.gob_bytes.specs.Tables.{Table, at_name, names_of, with_name}
 use Rattle.gob_bytes.proofs.Tables.{at-with_name, name_itself, same_name, two_names}
+use Rattle.gob_bytes.proofs.Paths.{front_more}
 use Rattle.gob_device.specs.Disk.{Both, Disk, File, Files, OnlyAt, after_append, after_change, after_create, after_sync}
 use Rattle.gob_device.specs.Disk.{clean, contents_at, contents_of, synced_file, with_more}
 use Rattle.gob_device.proofs.Trail.{both_map}
@@ -13,7 +14,7 @@ use Rattle.gob_stage.specs.Attempt.{AreThere, AttemptValue, HoldsClean, HoldsSta
 use Rattle.gob_stage.specs.Attempt.{with_appended, with_target}
 use Rattle.gob_stage.specs.Laws.{SameBelow}
 use Rattle.gob_stage.specs.Stages.{HoldsAll, HoldsMore, after_sync_calls, after_staging, after_syncs, begin_where}
-use Rattle.gob_stage.proofs.Names.{any_with, apart_in, begun_is, front_more, names_with}
+use Rattle.gob_stage.proofs.Names.{any_with, apart_in, begun_is, names_with}
 use Rattle.gob_stage.proofs.Maps.{appended_here, appended_other, by_name, clean_synced, contents_more, contents_synced}
 use Rattle.gob_stage.proofs.Maps.{created_here, created_other, synced_here, there_mapped}
 

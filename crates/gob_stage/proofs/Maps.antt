@@ -1,6 +1,6 @@
 -- What appends and syncs make of one file, and that they leave every other file.
 use Rattle.std.proofs.Common.{◌≡◌, ◌≢◌, ⊎_elim, ℕ, Bool, true, false, cond, List, [], ◌∷◌, ◌++◌, refl, sym, ap, subst}
-use Rattle.std.proofs.Common.{◌∙◌, Some, None, option_map, is_some, IsSome, IfSome, OnOk, OnErr}
+use Rattle.std.proofs.Common.{◌∙◌, Some, None, option_map, is_some, IsSome, IfSome, OnOk}
 use Rattle.std.specs.declared.option.Option.{Option}
 use Rattle.std.specs.declared.result.Result.{Result}
 use Rattle.std.specs.declared.result.Result.TheVariants.{Ok, Err}
@@ -13,15 +13,8 @@ use Rattle.gob_device.specs.Disk.{Along, Both, Changes, Disk, File, Files, OnlyA
 use Rattle.gob_device.specs.Disk.{after_append, after_change, after_create, after_sync, clean, contents_at, contents_of}
 use Rattle.gob_device.specs.Disk.{dirty, put, synced_file, with_more}
 use Rattle.gob_device.proofs.Trail.{along_change, along_map, along_then}
+use Rattle.gob_device.proofs.Only.{only_at_then}
 use Rattle.gob_recovery.specs.Commits.{OnlyBelow}
-
-pub on_err : {T E : Type 0} (r : Result T E) (P : Type 0) → P → OnErr r P
-on_err (Ok x) P p = tt
-on_err (Err e) P p = p
-
-pub on_ok : {T E : Type 0} (r : Result T E) (P : Type 0) → P → OnOk r P
-on_ok (Ok x) P p = p
-on_ok (Err e) P p = tt
 
 pub ok_then : {T E : Type 0} (r : Result T E) (P Q : Type 0) → (P → Q) → OnOk r P → OnOk r Q
 ok_then (Ok x) P Q f p = f p
@@ -71,9 +64,6 @@ appended_other name bytes m other apart = put_other m name other (option_map (wi
 pub synced_other : (name : List ℕ) (m : Files) → OnlyAt name m (after_sync name m)
 unfolding after_sync
 synced_other name m other apart = put_other m name other (option_map synced_file (m name)) apart
-
-pub only_at_then : (name : List ℕ) (m n k : Files) → OnlyAt name m n → OnlyAt name n k → OnlyAt name m k
-only_at_then name m n k a b other apart = b other apart ∙ a other apart
 
 whole_only : (name : List ℕ) (step : Files → Files) → ((m : Files) → OnlyAt name m (step m)) → (m n : Files)
     → Whole step m n → OnlyAt name m n

@@ -1,14 +1,13 @@
 -- Targets in byte order, and the names of their staged files.
 use Rattle.std.proofs.Common.{◌≡◌, ◌≢◌, ℕ, Bool, true, false, cond, ◌&&◌, ◌||◌, List, [], ◌∷◌, ◌++◌, map, refl, sym, ap}
-use Rattle.std.proofs.Common.{subst, ◌∙◌, Some, None, is_some, IsSome, nat_eq}
+use Rattle.std.proofs.Common.{subst, ◌∙◌, Some, None, is_some, IsSome}
 use Rattle.std.specs.declared.cmp.Ordering.{Ordering}
 use Rattle.std.specs.declared.cmp.Ordering.TheVariants.{Less, Equal, Greater}
 use Rattle.std.specs.declared.option.Option.{Option}
 use Rattle.std.specs.List.{list_all, list_any}
 use Rattle.std.specs.Str.{bytes_eq}
-use Rattle.std.proofs.lemmas.Bool.{and_parts, and_from, eq-eqb}
+use Rattle.std.proofs.lemmas.Bool.{and_parts, and_from}
 use Rattle.std.proofs.lemmas.List.{append_cancel_left}
-use Rattle.gob_bytes.specs.Paths.{begins_with}
 use Rattle.gob_bytes.specs.Tables.{Table, IsInByteOrder, at_name, name_cmp, names_of, with_name}
 use Rattle.gob_bytes.proofs.Tables.{greater_less, less_apart, less_then, level_names, name_itself, rising-with_name}
 use Rattle.gob_bytes.proofs.Tables.{rising_tail, same_name, two_names}
@@ -109,12 +108,6 @@ any_with (t ∷ ts) target q apart among = cases (name_cmp target t) refl (any_w
         = rw is refl in w) among)
 
 -- ---- the names in a folder
-
-pub front_more : (front more : List ℕ) → begins_with front (front ++ more) ≡ true
-front_more [] [] = refl
-front_more [] (b ∷ more) = refl
-front_more (b ∷ front) more = and_from (nat_eq b b) (begins_with front (front ++ more)) (eq-eqb b b refl)
-    (front_more front more)
 
 -- two targets have two staged files
 pub apart_in : (folder x y : List ℕ) → bytes_eq x y ≡ false → folder ++ x ≢ folder ++ y

@@ -12,6 +12,7 @@ use Rattle.std.proofs.lemmas.Cmp.{nat_cmp_total, tied_itself}
 use Rattle.gob_bytes.specs.Paths.{begins_with, under}
 use Rattle.gob_bytes.specs.Tables.{Table, IsInByteOrder, at_name, name_cmp, names_of, with_name}
 use Rattle.gob_bytes.proofs.Tables.{name_itself, two_names}
+use Rattle.gob_bytes.proofs.Paths.{front_more}
 use Rattle.gob_device.specs.Disk.{Along, Disk, Files, after_append, after_change}
 use Rattle.gob_device.specs.Names.{IsPathname, is_pathname}
 use Rattle.gob_device.proofs.Trail.{along_map}
@@ -22,7 +23,7 @@ use Rattle.gob_stage.specs.Attempt.{staged_files, staged_name, with_target}
 use Rattle.gob_stage.specs.Inside.{AreStagingTargets}
 use Rattle.gob_stage.specs.Stages.{EachThere, OnlyAmong, after_sync_calls, after_making, after_staging, after_syncs}
 use Rattle.gob_stage.specs.Stages.{begin_where}
-use Rattle.gob_stage.proofs.Names.{begun_is, front_more, kept_more, kept_name, kept_path, named_in, names_with}
+use Rattle.gob_stage.proofs.Names.{begun_is, kept_more, kept_name, kept_path, named_in, names_with}
 use Rattle.gob_stage.proofs.Names.{with_begun}
 
 pub record Opened (a : AttemptValue) (folder : List ℕ) (files : Table (List ℕ)) : Type 0 where

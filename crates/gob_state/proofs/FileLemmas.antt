@@ -197,11 +197,11 @@ state_parts v s = regrouped (version_line (codes "gobblin-state") v) (numbered_l
     (pipelines_text (version_of v) s.pipelines) (totals_text s.totals) (parts_text (version_of v) s.parts) (codes "end")
     (10 ∷ [])
 
-abbrev code_of : Version → CodeVersion
+abbrev pub code_of : Version → CodeVersion
 code_of version_1 = First
 code_of version_2 = Second
 
-version_back : (v : Version) → version_of (code_of v) ≡ v
+pub version_back : (v : Version) → version_of (code_of v) ≡ v
 version_back version_1 = refl
 version_back version_2 = refl
 

@@ -8,4 +8,3 @@ pub mod PartLemmas
 pub mod FileLemmas
 pub mod WriteLemmas
 pub mod NextLemmas
-pub mod Once

@@ -1,6 +1,6 @@
 -- Lines of ranges: which marks they make.
-use Rattle.std.proofs.Common.{◌≡◌, inl, inr, ⊎_elim, ℕ, ◌+◌, ◌<◌, ◌≤◌, true, false, cond}
-use Rattle.std.proofs.Common.{nat_lt, List, [], ◌∷◌, ◌++◌, map, refl, sym, ap, subst, ◌∙◌, Some, None}
+use Rattle.std.proofs.Common.{◌≡◌, inl, inr, ⊎_elim, ℕ, ◌+◌, ◌<◌, ◌≤◌, cond}
+use Rattle.std.proofs.Common.{List, [], ◌∷◌, ◌++◌, map, refl, sym, ap, subst, ◌∙◌, Some, None}
 use Rattle.std.proofs.Common.{append-nil, arith, codes}
 use Rattle.std.specs.List.{AllByRecursion, Contains, flat_map}
 use Rattle.std.proofs.lemmas.Bool.{lt-ltb, le-ltb}
@@ -10,12 +10,11 @@ use Rattle.gob_bytes.specs.Words.{words}
 use Rattle.gob_bytes.specs.Escapes.{escape_of}
 use Rattle.std.specs.Fmt.{decimal}
 use Rattle.gob_ledger.specs.Marks as marks
-use Rattle.gob_ledger.specs.Marks.{Marks, Span, InOrder, Tiled, done_spans}
+use Rattle.gob_ledger.specs.Marks.{Marks, Span, Tiled, done_spans}
 use Rattle.gob_ledger.specs.Spelling.{Version, version_1, version_2, Small}
 use Rattle.gob_ledger.proofs.InLine.{InLine, span_in, line_tiles, tiled_in_line}
-use Rattle.gob_ledger.proofs.Members.{in_cases, none_in, map_in}
-use Rattle.gob_ledger.proofs.Ranges.{order_members}
-use Rattle.gob_ledger.proofs.Reading.{gathered, with_range}
+use Rattle.gob_ledger.proofs.Members.{in_cases, none_in}
+use Rattle.gob_ledger.proofs.Reading.{gathered, gathered_mixed}
 use Rattle.gob_ledger.proofs.StateLines.{Range, range_words, put_range, mixed, mixed_each, from_members}
 use Rattle.gob_ledger.proofs.StateLines.{parts_text_is}
 use Rattle.gob_ledger.proofs.WordLines.{line_bytes, lines_text}
@@ -199,41 +198,6 @@ mixed_back low (inr s ∷ rs) high (at, some, rest) =
     owed_first s (gathered rs).finished (gathered rs).owed
     (weaker (s.lo + 1) s.hi (gathered rs).finished (omega arith) (done_above s.hi rs high rest))
     ∙ ap (λ qs. inr s ∷ qs) (mixed_back s.hi rs high rest)
-
--- a done range below all of these comes first of the done ones
-abbrev DoneBehind : ℕ → Range → Type 0
-DoneBehind lo (inl d) = lo < d.span.lo
-DoneBehind lo (inr s) = Unit {0}
-
-gathered_put : (d : marks.Done) (rs : List Range) → AllByRecursion (DoneBehind d.span.lo) rs
-    → gathered (put_range (inl d) rs) ≡ with_range (inl d) (gathered rs)
-gathered_put d [] above = refl
-gathered_put d (inl e ∷ rs) above =
-    ap (λ b. gathered (cond b (inl d ∷ inl e ∷ rs) (inl e ∷ put_range (inl d) rs))) (lt-ltb d.span.lo e.span.lo above.0)
-gathered_put d (inr s ∷ rs) above = elim (nat_lt d.span.lo s.lo) as
-    (λ b. gathered (cond b (inl d ∷ inr s ∷ rs) (inr s ∷ put_range (inl d) rs)) ≡ with_range (inl d)
-    (gathered (inr s ∷ rs))) [
-      | true ↦ refl
-      | false ↦ ap (with_range (inr s)) (gathered_put d rs above.1)
-    ]
-
--- mixed ranges are parted again
-pub gathered_back : (from : ℕ) (ds : List marks.Done) (os : List Span)
-    → InOrder from (map (λ (d : marks.Done). d.span) ds)
-    → gathered (mixed ds os) ≡ record { next = 0; finished = ds; owed = os }
-gathered_back from [] os order = each os
-  where
-    each : (os : List Span) → gathered (map inr os) ≡ record { next = 0; finished = []; owed = os }
-    each [] = refl
-    each (o ∷ os) = ap (with_range (inr o)) (each os)
-gathered_back from (d ∷ ds) os order =
-    gathered_put d (mixed ds os) (mixed_each (DoneBehind d.span.lo) ds os
-    (from_members (λ (e : marks.Done). d.span.lo < e.span.lo) ds (λ e h.
-    let r = order_members d.span.hi (map (λ (x : marks.Done). x.span) ds) e.span order.2
-    (map_in (λ (x : marks.Done). x.span) ds e h) in
-    let low : d.span.hi ≤ e.span.lo = r.0 in let some : d.span.lo < d.span.hi = order.1 in omega arith))
-    (from_members (λ (s : Span). Unit {0}) os (λ s h. tt)))
-    ∙ ap (with_range (inl d)) (gathered_back d.span.hi ds os order.2)
 
 -- the last of the ranges goes to the end of its kind
 gathered_push : (rs : List Range) (l : RangeLine) (next : ℕ)
@@ -431,7 +395,7 @@ ranges_read v n old rest new m some none is =
 
     level : (k : Marks) → AreMarks v n k → some.ranges ≡ mixed k.finished k.owed → m ≡ k
     level k f same =
-        let back = gathered_back 0 k.finished k.owed f.tiled.finished in
+        let back = gathered_mixed 0 k.finished k.owed f.tiled.finished in
         let ends = line_end 0 some.ranges m.next k.next some.line
         (subst (λ rs. InLine 0 rs k.next) (sym same) (tiled_in_line k f.tiled)) in
         some.marks ∙ (λ i. record (gathered (same i)) { next = ends i })

@@ -1,13 +1,13 @@
 -- The pieces of a text, by where a separator is first found in it.
-use Rattle.std.proofs.Common.{◌≡◌, ◌≢◌, ℕ, zero, suc, ◌+◌, ◌-◌, ◌<◌, ◌≤◌, Bool, true, false, cond, ◌&&◌, nat_eq, List}
+use Rattle.std.proofs.Common.{◌≡◌, ◌≢◌, ℕ, zero, suc, ◌+◌, ◌-◌, ◌<◌, ◌≤◌, Bool, true, false, cond, nat_eq, List}
 use Rattle.std.proofs.Common.{[], ◌∷◌, ◌++◌, length, map, set, take, drop, None, subst, refl, ap, sym, ◌∙◌, arith}
 use Rattle.std.specs.List.{starts_with}
 use Rattle.std.specs.Str.{IsUtf8, IsCharBoundary}
 use Rattle.std.specs.Str.Pattern.{LacksTextAt, FindsText, SplitsAroundMatch}
 use Rattle.std.proofs.lemmas.Str.{IsUtf8-drop}
 use Rattle.std.proofs.lemmas.Str.Pattern.{starts_text}
-use Rattle.std.proofs.lemmas.Bool.Decides.{nat_tests}
 use Rattle.std.proofs.lemmas.List.{append_assoc, length-take, set-set, take-append-drop, take-append-le}
+use Rattle.gob_bytes.proofs.Paths.{front_more}
 use Rattle.gob_plan.specs.declared.rows.Value.{Value}
 use Rattle.gob_plan.specs.declared.rows.Value.TheVariants as value
 use Rattle.gob_plan.specs.declared.rows.Row.{Row}
@@ -16,13 +16,6 @@ use Rattle.gob_steps.specs.Places.{row_with, rows_of_pieces}
 
 begins_not : (s n : List ℕ) → LacksTextAt n s 0 → starts_with nat_eq s n ≡ false
 begins_not s n lacks = sym (starts_text false n s lacks)
-
-nat_itself : (n : ℕ) → nat_eq n n ≡ true
-nat_itself n = grind (arith, nat_tests)
-
-begins : (n back : List ℕ) → starts_with nat_eq (n ++ back) n ≡ true
-begins [] back = refl
-begins (x ∷ n) back = ap (λ b. b && starts_with nat_eq (n ++ back) n) (nat_itself x) ∙ begins n back
 
 -- what is left of a separator that began before
 pub skipped : (separator front back : List ℕ) → pieces_after separator (length front) (front ++ back)
@@ -49,7 +42,7 @@ pub next_piece : (separator front back : List ℕ) → separator ≢ []
     → pieces_of separator (front ++ (separator ++ back)) ≡ front ∷ pieces_of separator back
 next_piece [] front back some lacks = absurd (some refl)
 next_piece (x ∷ xs) [] back some lacks =
-    let here : starts_with nat_eq (x ∷ (xs ++ back)) (x ∷ xs) ≡ true = begins (x ∷ xs) back in
+    let here : starts_with nat_eq (x ∷ (xs ++ back)) (x ∷ xs) ≡ true = front_more (x ∷ xs) back in
     let less : suc (length xs) - 1 ≡ length xs = omega arith in
     (λ j. piece_byte (here j) x (pieces_after (x ∷ xs) (cond (here j) (suc (length xs) - 1) 0) (xs ++ back)))
     ∙ ap (λ n. [] ∷ pieces_after (x ∷ xs) n (xs ++ back)) less

@@ -17,8 +17,6 @@ use Rattle.gob_bytes.specs.Tables.{IsInByteOrder, Table, at_name, names_of}
 use Rattle.gob_bytes.proofs.Tables.{member_from_at, name_itself}
 use Rattle.gob_bytes.proofs.Forms.{own}
 use Rattle.gob_device.specs.Disk.{Both, Disk}
-use Rattle.gob_device.specs.Names.{IsPathname}
-use Rattle.gob_device.proofs.Names.{name_bytes}
 use Rattle.gob_device.proofs.Trail.{both_map}
 use Rattle.gob_ledger.proofs.Members.{in_cases, in_map, map_in, none_in}
 use Rattle.gob_meaning.specs.Fold.{Delivery, counts_of, sent_to, unit_fold}
@@ -76,10 +74,6 @@ folder_spelled job unit attempt named small few =
     (named_before (staging job ++ decimal unit) (45 ∷ decimal attempt)
     (named_before (staging job) (decimal unit) (named_before job (47 ∷ codes "stage/") named refl)
     (decimal_spelled unit small)) (decimal_spelled attempt few)) refl
-
-pub file_pathname : (name : List ℕ) → is_file_name name ≡ true → IsPathname name
-file_pathname [] e = e
-file_pathname (b ∷ bs) e = name_bytes is_sequence_byte refl (b ∷ bs) e
 
 -- ---- what is begun
 

@@ -9,6 +9,7 @@ use Rattle.std.proofs.lemmas.Grind.{common_steps}
 use Rattle.std.proofs.Math.Seq.{take-add}
 use Rattle.gob_bytes.specs.Lines.{lines_from, rest, start_from}
 use Rattle.gob_bytes.specs.Paths.{begins_with, under}
+use Rattle.gob_bytes.proofs.Paths.{front_more}
 use Rattle.gob_device.specs.Disk.{clean}
 use Rattle.gob_device.specs.Supply.{Held, bytes_at, bytes_from}
 use Rattle.gob_ledger.specs.Expected.{IsMade, IsPublished, bytes_of_range}
@@ -26,7 +27,6 @@ use Rattle.gob_plan.specs.declared.units.StagedFile.{StagedFile}
 use Rattle.gob_plan.specs.declared.units.Unit.{Unit as WorkUnit}
 use Rattle.gob_stage.specs.Attempt.{AreThere, staged_name}
 use Rattle.gob_stage.proofs.Held.{staged_same}
-use Rattle.gob_stage.proofs.Names.{front_more}
 use Rattle.gob_task.specs.Finish.{AreStagedFor, HoldCleanly, IsStagedFor}
 use Rattle.gob_task.specs.Laws.{FirstBytesDecide, PulledAreFirst, StagedArePublished, TasksKeepTheirOwn}
 use Rattle.gob_task.specs.Task.{HoldsSent, name_in, unit_length, unit_sends}

@@ -4,7 +4,6 @@ use Rattle.std.proofs.Common.{ap, subst, ◌∙◌, None, Some, unwrap_or, nat_e
 use Rattle.std.specs.declared.option.Option.{Option}
 use Rattle.std.specs.Str.{bytes_eq}
 use Rattle.std.proofs.lemmas.Bool.{and_from, eq-eqb}
-use Rattle.std.proofs.lemmas.List.Concat.{flat_map-append}
 use Rattle.gob_bytes.specs.Tables.{Table, at_name}
 use Rattle.gob_bytes.proofs.Tables.{at-with_name, name_itself, same_name, two_names}
 use Rattle.gob_meaning.specs.Fold.{Delivery, same_target, sent_to}
@@ -12,15 +11,12 @@ use Rattle.gob_meaning.specs.Items.{Target, out, err, bad}
 use Rattle.gob_meaning.specs.Laws.{IsPlaced, IsRange}
 use Rattle.gob_meaning.proofs.Apart.{names_apart}
 use Rattle.gob_meaning.proofs.Placed.{same_is, sent_is_placed}
+use Rattle.gob_meaning.proofs.Joins.{sent-append}
 use Rattle.gob_plan.specs.declared.plan.Plan.{Plan}
 use Rattle.gob_plan.specs.declared.units.Unit.{Unit as WorkUnit}
 use Rattle.gob_stage.specs.Attempt.{with_appended}
 use Rattle.gob_task.specs.Task.{AreSent, name_in, unit_sends}
 use Rattle.gob_task.specs.Staging.{AreFilled, appends_of, with_appends}
-
-pub sent-append : (t : Target) (x y : List Delivery) → sent_to t (x ++ y) ≡ sent_to t x ++ sent_to t y
-unfolding sent_to
-sent-append t x y = flat_map-append _ x y
 
 sent_one : (t : Target) (d : Delivery) → sent_to t (d ∷ []) ≡ cond (same_target t d.target) d.bytes []
 unfolding sent_to

@@ -10,7 +10,7 @@ use Rattle.gob_device.proofs.Trail.{both_map}
 use Rattle.gob_meaning.specs.Fold.{deliveries_of, sent_to, stop_of, unit_fold}
 use Rattle.gob_meaning.specs.Items.{Target}
 use Rattle.gob_meaning.specs.Laws.{IsRange}
-use Rattle.gob_meaning.proofs.Joins.{parts_join}
+use Rattle.gob_meaning.proofs.Joins.{parts_join, sent-append}
 use Rattle.gob_plan.specs.declared.plan.Plan.{Plan}
 use Rattle.gob_recovery.specs.Sequence.{is_file_name}
 use Rattle.gob_pipeline.specs.Machine.{Fed, MachineValue, Sends, WasFed, sent_before_stop}
@@ -26,7 +26,7 @@ use Rattle.gob_task.specs.declared.task.Turn.TheVariants as turn
 use Rattle.gob_task.proofs.Appended.{after_folder, after_job, names_after, spelled_after}
 use Rattle.gob_task.proofs.Ends.{going_told, whole_told}
 use Rattle.gob_task.proofs.Slots.{all_filled}
-use Rattle.gob_task.proofs.Sent.{placed_of_unit, sent-append, sent_alike, sent_all}
+use Rattle.gob_task.proofs.Sent.{placed_of_unit, sent_alike, sent_all}
 
 -- where no line stops the unit, all lines are before the stop
 sent_whole : (plan : Plan) (lo : ℕ) (bytes : List ℕ) → stop_of plan (unit_fold plan lo bytes) ≡ None

@@ -2,7 +2,7 @@
 use Rattle.std.proofs.Common.{◌≡◌, ℕ, ◌<◌, ◌≤◌, Bool, true, false, cond, ◌||◌, nat_lt, List, [], ◌∷◌, refl, sym, ap}
 use Rattle.std.proofs.Common.{◌∙◌, arith}
 use Rattle.std.specs.List.{list_any}
-use Rattle.std.proofs.lemmas.Bool.{ltb-true, ltb-false}
+use Rattle.std.proofs.lemmas.Bool.{ltb-true, ltb-false, or_right, or_left}
 use Rattle.gob_ledger.specs.Marks.{Span, Done, has, InOrder}
 use Rattle.gob_ledger.proofs.Ranges.{inside, within, spans}
 use Rattle.gob_texts.specs.Report.{reached_offset}
@@ -10,14 +10,6 @@ use Rattle.gob_texts.specs.Laws.{TellsWatermark}
 
 abbrev in_any : ℕ → List Done → Bool
 in_any at ds = list_any (λ d. has at d.span) ds
-
-or_left : (a b : Bool) → a ≡ true → (a || b) ≡ true
-or_left true b e = refl
-or_left false b e = absurd (let no : false ≡ true = e in cc)
-
-or_right : (a b : Bool) → b ≡ true → (a || b) ≡ true
-or_right true b e = refl
-or_right false b e = e
 
 or_none : (a b : Bool) → a ≡ false → b ≡ false → (a || b) ≡ false
 or_none true b e f = e

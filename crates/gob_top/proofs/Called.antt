@@ -8,8 +8,9 @@ use Rattle.std.proofs.lemmas.Bool.Decides.{nat_tests}
 use Rattle.gob_bytes.specs.Names.{begins_as_job, is_job_byte, is_job_name}
 use Rattle.gob_bytes.specs.Paths.{job_file}
 use Rattle.gob_device.specs.Names.{IsPathname}
-use Rattle.gob_device.proofs.Names.{name_before, name_behind, name_bytes}
+use Rattle.gob_device.proofs.Names.{name_before, name_behind}
 use Rattle.gob_recovery.specs.Sequence.{is_file_name, is_sequence_byte}
+use Rattle.gob_recovery.proofs.Names.{file_pathname}
 use Rattle.gob_top.specs.Answers.{job_of_words}
 
 -- ---- a job's file
@@ -20,10 +21,6 @@ job_file_named job name is named =
     (name_behind (codes "jobs/") job refl named) refl)
 
 -- ---- a job's name
-
-pub file_pathname : (name : List ℕ) → is_file_name name ≡ true → IsPathname name
-file_pathname [] e = e
-file_pathname (b ∷ bs) e = name_bytes is_sequence_byte refl (b ∷ bs) e
 
 job_byte : (b : ℕ) → is_job_byte b ≡ true → is_sequence_byte b ≡ true
 job_byte b e = grind (arith, nat_tests)

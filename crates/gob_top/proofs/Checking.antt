@@ -5,6 +5,7 @@ use Rattle.std.specs.declared.result.Result.TheVariants.{Err}
 use Rattle.gob_device.specs.Disk.{Disk}
 use Rattle.gob_texts.specs.Refusals as texts
 use Rattle.gob_run.specs.World.{World}
+use Rattle.gob_run.proofs.Worked.{with_volume}
 use Rattle.gob_top.specs.Answers.{Told, refusal_told}
 use Rattle.gob_top.specs.Checks.{CheckAnswered, check_told, checked, failure, starved}
 use Rattle.gob_top.specs.Found.{NotFound}
@@ -12,16 +13,12 @@ use Rattle.gob_top.specs.Found as found
 use Rattle.gob_top.specs.Jobs.{FileGives, Read}
 use Rattle.gob_top.specs.World.{StaysPut}
 
--- the world with this volume
-abbrev pub filed : World → Option Disk → ℕ → World
-filed w disk faults = record w { disk = disk; volume_faults = faults }
-
 pub same_world : (w : World) (old new : Option Disk) (before now : ℕ) → new ≡ old → now ≡ before
-    → filed w new now ≡ filed w old before
-same_world w old new before now disk faults = λ i. filed w (disk i) (faults i)
+    → with_volume w new now ≡ with_volume w old before
+same_world w old new before now disk faults = λ i. with_volume w (disk i) (faults i)
 
 pub stays_put : (w : World) (old new : Option Disk) (before now : ℕ) → new ≡ old → before ≤ now
-    → StaysPut (filed w old before) (filed w new now)
+    → StaysPut (with_volume w old before) (with_volume w new now)
 stays_put w old new before now disk later = record {
   disk = disk;
   source = record { supply = refl; faults = refl; planned = refl };
@@ -31,7 +28,7 @@ stays_put w old new before now disk later = record {
 -- the file gives no job, or wasn't read
 pub not_checked : (job : List ℕ) (w : World) (old new : Option Disk) (before now : ℕ) (why : texts.Refusal) (t : Told)
     → NotFound job old before now why → new ≡ old → before ≤ now → t ≡ refusal_told why
-    → CheckAnswered job (filed w old before) (filed w new now) t
+    → CheckAnswered job (with_volume w old before) (with_volume w new now) t
 not_checked job w old new before now why t (found.given gives unfailed) disk later tells = record {
   caused = checked (Err why) gives (inl tells) (same_world w old new before now disk unfailed);
   stays = stays_put w old new before now disk later;
@@ -46,13 +43,14 @@ not_checked job w old new before now why t (found.starved is) disk later tells =
 }
 
 pub check_starved : (job : List ℕ) (w : World) (old new : Option Disk) (before now : ℕ) (t : Told) → new ≡ old
-    → before ≤ now → t ≡ refusal_told texts.memory → CheckAnswered job (filed w old before) (filed w new now) t
+    → before ≤ now → t ≡ refusal_told texts.memory
+    → CheckAnswered job (with_volume w old before) (with_volume w new now) t
 check_starved job w old new before now t disk later tells =
     record { caused = starved tells; stays = stays_put w old new before now disk later }
 
 pub job_checked : (job : List ℕ) (w : World) (old new : Option Disk) (before now : ℕ) (r : Read) (t : Told)
     → FileGives job old r → t ≡ check_told job r → new ≡ old → now ≡ before → before ≤ now
-    → CheckAnswered job (filed w old before) (filed w new now) t
+    → CheckAnswered job (with_volume w old before) (with_volume w new now) t
 job_checked job w old new before now r t gives tells disk unfailed later = record {
   caused = checked r gives (inl tells) (same_world w old new before now disk unfailed);
   stays = stays_put w old new before now disk later;

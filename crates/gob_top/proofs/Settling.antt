@@ -27,19 +27,19 @@ use Rattle.gob_run.specs.declared.fault.RunFault.TheVariants as fault
 use Rattle.gob_run.proofs.Entering.{settling_trail}
 use Rattle.gob_run.proofs.Readers.{readers_of_settling}
 use Rattle.gob_run.proofs.Settled.{OnlySettle, only_settled, settle_alike, settled_to}
+use Rattle.gob_run.proofs.Worked.{with_volume}
 use Rattle.gob_top.specs.Answers.{Told, refusal_told}
 use Rattle.gob_top.specs.Faults.{settle_refusal}
 use Rattle.gob_top.specs.Runs.{run_refusal}
 use Rattle.gob_top.specs.Settlings.{IsRecovered, IsReported, OnlySettles, RecoverAnswered, ReportAnswered}
 use Rattle.gob_top.specs.Settlings.{SettlingTrail, TellsFirst, damaged, failure, recovered, reported, starved}
-use Rattle.gob_top.proofs.Checking.{filed}
 
 -- ---- the maps on the way
 
 -- where the volume tells, this holds of its maps
 where_filed : {Q : Files → List Files → Type 0} (P : Disk → Disk → Type 0) (w : World) (old new : Option Disk)
     (before now : ℕ) → ((d e : Disk) → Went Q d e → P d e) → AddsMaps Q old new
-    → WhereFiled P (filed w old before) (filed w new now)
+    → WhereFiled P (with_volume w old before) (with_volume w new now)
 where_filed {Q} P w old new before now weaker a = λ d here. told old new a.told d here
   where
     told : (o n : Option Disk) → Both (Went Q) o n → (d : Disk) → o ≡ Some d → (e : Disk) × (n ≡ Some e) × P d e
@@ -76,7 +76,7 @@ on_its_way : {job : List ℕ} {old new : Option Disk} {before now : ℕ} → OnI
 on_its_way way = maps_both way.images (maps_both way.names way.staged)
 
 only_settles : (job : List ℕ) (w : World) (old new : Option Disk) (before now : ℕ) → OnItsWay job old new before now
-    → OnlySettles job (filed w old before) (filed w new now)
+    → OnlySettles job (with_volume w old before) (with_volume w new now)
 only_settles job w old new before now way = record {
   trail = where_filed (SettlingTrail job) w old new before now (trail_settles job) (maps_both way.images way.names);
   only = where_filed (OnlySettled job) w old new before now (only_settled job) (on_its_way way);
@@ -122,7 +122,7 @@ settled_due job (Some d) new s t due = λ name is. never name (due name is).0
 
 fault_recovered : (job : List ℕ) (w : World) (old new : Option Disk) (before now : ℕ) (f : SettleFault) (t : Told)
     → Damages job old new f → RoseIfSettleFailed before now f → t ≡ refusal_told (settle_refusal f)
-    → IsRecovered job (filed w old before) (filed w new now) t
+    → IsRecovered job (with_volume w old before) (with_volume w new now) t
 fault_recovered job w old new before now settle.Failed t damages rose tells = failure (inl tells) rose
 fault_recovered job w old new before now settle.Memory t damages rose tells = starved tells
 fault_recovered job w old new before now (settle.Damaged name) t damages rose tells =
@@ -131,7 +131,7 @@ fault_recovered job w old new before now (settle.Damaged name) t damages rose te
 pub not_recovered : (job : List ℕ) (w : World) (old new : Option Disk) (before now : ℕ) (f : SettleFault)
     (t : Told) → OnItsWay job old new before now → Damages job old new f → RoseIfSettleFailed before now f
     → SettlesDue job old new (Err f) → t ≡ refusal_told (settle_refusal f)
-    → RecoverAnswered job (filed w old before) (filed w new now) t
+    → RecoverAnswered job (with_volume w old before) (with_volume w new now) t
 not_recovered job w old new before now f t way damages rose due tells = record {
   caused = fault_recovered job w old new before now f t damages rose tells;
   due = fault_due job old new f t due tells;
@@ -140,7 +140,7 @@ not_recovered job w old new before now f t way damages rose due tells = record {
 
 pub recover_starved : (job : List ℕ) (w : World) (old new : Option Disk) (before now : ℕ) (s : Settled) (t : Told)
     → OnItsWay job old new before now → SettlesDue job old new (Ok s) → t ≡ refusal_told texts.memory
-    → RecoverAnswered job (filed w old before) (filed w new now) t
+    → RecoverAnswered job (with_volume w old before) (with_volume w new now) t
 recover_starved job w old new before now s t way due tells = record {
   caused = starved tells;
   due = settled_due job old new s t due;
@@ -150,7 +150,7 @@ recover_starved job w old new before now s t way due tells = record {
 pub all_recovered : (job : List ℕ) (w : World) (old new : Option Disk) (before now : ℕ) (s : Settled) (t : Told)
     → OnItsWay job old new before now → SettlesDue job old new (Ok s) → AddsMaps (EndsBy (Settles job)) old new
     → IfSome old (λ d. s.was_open ≡ is_some (d.files (sequence_name job))) → t ≡ (0, recovery_report job s.was_open)
-    → RecoverAnswered job (filed w old before) (filed w new now) t
+    → RecoverAnswered job (with_volume w old before) (with_volume w new now) t
 all_recovered job w old new before now s t way due settles was tells = record {
   caused = recovered s.was_open was
       (where_filed (SettledTo job) w old new before now (settled_to job) (maps_both settles (on_its_way way)))
@@ -193,7 +193,7 @@ loaded_due job (Some d) l t due = λ name is. never name (due name is)
     never name (inr (inr same)) = absurd (cc)
 
 where_both : (P : Disk → Disk → Type 0) (w : World) (old new : Option Disk) (before now : ℕ) → Both P old new
-    → WhereFiled P (filed w old before) (filed w new now)
+    → WhereFiled P (with_volume w old before) (with_volume w new now)
 where_both P w old new before now b = λ d here. told old new b d here
   where
     told : (o n : Option Disk) → Both P o n → (d : Disk) → o ≡ Some d → (e : Disk) × (n ≡ Some e) × P d e
@@ -203,7 +203,7 @@ where_both P w old new before now b = λ d here. told old new b d here
 
 fault_reported : (job : List ℕ) (w : World) (old new : Option Disk) (before now : ℕ) (f : RunFault) (t : Told)
     → BeginsNot job old new before now f → t ≡ refusal_told (run_refusal f)
-    → IsReported job (filed w old before) (filed w new now) t
+    → IsReported job (with_volume w old before) (with_volume w new now) t
 fault_reported job w old new before now (fault.Damaged name) t stops tells =
     damaged name (where_both (LeftBroken job name) w old new before now stops) (inl tells)
 fault_reported job w old new before now (fault.Shrunk part next size) t stops tells = absurd stops
@@ -214,7 +214,7 @@ fault_reported job w old new before now fault.Memory t stops tells = starved tel
 
 pub not_reported : (job : List ℕ) (w : World) (old new : Option Disk) (before now : ℕ) (f : RunFault)
     (t : Told) → OnItsWay job old new before now → BeginsNot job old new before now f → LoadsDue job old (Err f)
-    → t ≡ refusal_told (run_refusal f) → ReportAnswered job (filed w old before) (filed w new now) t
+    → t ≡ refusal_told (run_refusal f) → ReportAnswered job (with_volume w old before) (with_volume w new now) t
 not_reported job w old new before now f t way stops due tells = record {
   caused = fault_reported job w old new before now f t stops tells;
   due = break_due job old f t due tells;
@@ -223,7 +223,7 @@ not_reported job w old new before now f t way stops due tells = record {
 
 pub report_starved : (job : List ℕ) (w : World) (old new : Option Disk) (before now : ℕ) (l : Loaded) (t : Told)
     → OnItsWay job old new before now → LoadsDue job old (Ok l) → t ≡ refusal_told texts.memory
-    → ReportAnswered job (filed w old before) (filed w new now) t
+    → ReportAnswered job (with_volume w old before) (with_volume w new now) t
 report_starved job w old new before now l t way due tells = record {
   caused = starved tells;
   due = loaded_due job old l t due;
@@ -246,7 +246,7 @@ entry_is job l (Some d) (Some e) a =
 
 pub all_reported : (job : List ℕ) (w : World) (old new : Option Disk) (before now : ℕ) (l : Loaded) (t : Told)
     → OnItsWay job old new before now → LoadsDue job old (Ok l) → AddsMaps (Finds job l) old new
-    → t ≡ (0, state_report job l.state) → ReportAnswered job (filed w old before) (filed w new now) t
+    → t ≡ (0, state_report job l.state) → ReportAnswered job (with_volume w old before) (with_volume w new now) t
 all_reported job w old new before now l t way due finds tells = record {
   caused = reported l.state (entry_is job l old new finds)
       (where_filed (SettledTo job) w old new before now (settled_to job) (maps_both settles (on_its_way way)))

@@ -20,7 +20,7 @@ use gob_volume::Volume;
 use std::alloc::Global;
 
 /// Reads the job's file, runs the job, and tells what the run did.
-#[tactic(auto, using(crate::proofs::Called::file_pathname))]
+#[tactic(auto, using(gob_recovery::proofs::Names::file_pathname))]
 pub(crate) fn run<S: Source, V: Volume>(
     alloc: Global,
     job: &str,

@@ -21,6 +21,7 @@ use Rattle.gob_bytes.specs.Paths.{attempt_folder, begins_with, is_published, seq
 use Rattle.gob_bytes.specs.Tables.{IsInByteOrder, name_cmp}
 use Rattle.gob_bytes.proofs.Forms.{bytes_from_utf8, own}
 use Rattle.gob_bytes.proofs.Tables.{less_apart, less_then, name_itself, rising_tail, two_names}
+use Rattle.gob_bytes.proofs.Paths.{front_more, under_front, cancel_under, sequence_unpublished}
 use Rattle.gob_device.specs.Disk.{Disk}
 use Rattle.gob_device.specs.Supply.{Supply}
 use Rattle.gob_plan.specs.declared.plan.Plan.{Plan}
@@ -35,7 +36,7 @@ use Rattle.gob_plan.specs.declared.units.Cause.{Cause}
 use Rattle.gob_plan.specs.declared.units.Cause.TheVariants.{Gone, Torn}
 use Rattle.gob_meaning.specs.Fold.{Folded, branch_counts, counts_of, stop_of, unit_fold}
 use Rattle.gob_meaning.specs.Results.{failed, first_failing, good, unless_stopped, verdict_by_policies, verdict_of}
-use Rattle.gob_meaning.specs.Items.{Target, out, err, bad}
+use Rattle.gob_meaning.specs.Items.{Target, bad}
 use Rattle.gob_meaning.specs.Names.{target_name}
 use Rattle.gob_meaning.proofs.Apart.{names_apart}
 use Rattle.gob_meaning.proofs.Placed.{sent_is_placed}
@@ -46,10 +47,8 @@ use Rattle.gob_ledger.specs.Units.{same_unit}
 use Rattle.gob_ledger.proofs.Members.{first_in, in_cases, in_flat_map, in_map, later_in, map_in, none_in}
 use Rattle.gob_recovery.specs.Sequence.{is_lasting, is_staged, move, names_in, step_fits}
 use Rattle.gob_history.specs.Laws.{moves_of}
-use Rattle.gob_history.proofs.Fronts.{published_unstaged, under_front, made_in}
-use Rattle.gob_history.proofs.Left.{cancel_under}
+use Rattle.gob_history.proofs.Fronts.{published_unstaged, made_in}
 use Rattle.gob_stage.proofs.Folders.{attempts_apart, attempts_staged, folder_parts}
-use Rattle.gob_stage.proofs.Names.{front_more}
 use Rattle.gob_state.specs.Committed.{verdict_in}
 use Rattle.gob_task.specs.Finish.{IsStagedFor}
 use Rattle.gob_task.specs.Task.{name_in, unit_sends}
@@ -149,12 +148,6 @@ not_top job name more i failures small e =
     no_word (decimal i) (decimal failures ++ 47 ∷ name) more (digits_decimal own i (omega arith))
     (append_cancel_left (staging job) (decimal i ++ 45 ∷ (decimal failures ++ 47 ∷ name)) (115 ∷ more)
     (sym (folder_parts job i failures name) ∙ e))
-
-sequence_unpublished : (job : List ℕ) → is_published job (sequence_name job) ≡ false
-sequence_unpublished job =
-    ap (λ v. cond v true (begins_with (under job (codes "err/")) (sequence_name job)))
-    (under_front job (codes "out/") (codes "seq"))
-    ∙ under_front job (codes "err/") (codes "seq")
 
 -- what is known of one pair
 record IsFinePair (job : List ℕ) (p : List ℕ × List ℕ) : Type 0 where

@@ -3,6 +3,7 @@ use Rattle.std.proofs.Common.{◌≡◌, ◌≢◌, ⊎_elim, ℕ, ◌^◌, ◌<
 use Rattle.std.proofs.Common.{IfSome, option_map, Bool, false, length}
 use Rattle.std.specs.declared.option.Option.{Option}
 use Rattle.gob_bytes.specs.Paths.{attempt_folder, begins_with, staging}
+use Rattle.gob_bytes.proofs.Paths.{front_more}
 use Rattle.gob_device.specs.Disk.{Along, Disk, Files}
 use Rattle.gob_device.specs.Supply.{Held, Pull, Supply, bytes_from, with_pull}
 use Rattle.gob_device.proofs.Trail.{along_last, along_map}
@@ -15,7 +16,6 @@ use Rattle.gob_recovery.specs.Commits.{OnlyBelow}
 use Rattle.gob_stage.specs.Laws.{SameBelow}
 use Rattle.gob_stage.proofs.Folders.{attempts_apart, attempts_staged}
 use Rattle.gob_stage.proofs.Held.{staged_same}
-use Rattle.gob_stage.proofs.Names.{front_more}
 use Rattle.gob_task.specs.Finish.{AreStagedFor, HoldCleanly}
 use Rattle.gob_task.specs.Task.{HoldsSent, TaskValue, unit_sends}
 use Rattle.gob_task.specs.Turn.{Devices, TurnRulesValue}

@@ -1,9 +1,10 @@
 -- One turn of a unit, told over a source.
 use Rattle.std.proofs.Common.{◌≡◌, ℕ, ◌+◌, Bool, true, false, cond, nat_lt, nat_le, List, [], ◌∷◌}
-use Rattle.std.proofs.Common.{refl, sym, ap, ◌∙◌, arith, append-nil, Some}
+use Rattle.std.proofs.Common.{refl, sym, ap, ◌∙◌, arith, Some}
 use Rattle.std.specs.declared.option.Option.{Option}
 use Rattle.std.proofs.lemmas.Bool.Decides.{nat_tests}
 use Rattle.gob_device.specs.Supply.{Held, Pull, Supply, bytes_from, with_pull, with_pulls}
+use Rattle.gob_device.proofs.Supply.{with_none}
 use Rattle.gob_plan.specs.declared.units.Cause.{Cause}
 use Rattle.gob_plan.specs.declared.units.Cause.TheVariants.{Fault}
 use Rattle.gob_plan.specs.declared.units.Unit.{Unit as WorkUnit}
@@ -59,9 +60,6 @@ open_judged job held u gave Waits goes none = none
 open_judged job held u gave (Runs t) goes none = none
 open_judged job held u gave (Ended r) goes none = absurd (let no : false ≡ true = goes in cc)
 
-with_nothing : (s : Supply) → s ≡ with_pulls [] s
-with_nothing s = ap (λ ps. record s { pulls = ps }) (sym (append-nil s.pulls))
-
 above : (failures retries : ℕ) → nat_lt failures retries ≡ true → nat_le retries failures ≡ false
 above failures retries is = grind (arith, nat_tests)
 
@@ -77,7 +75,7 @@ pub retry_told : (job : Job) (s : Supply) (i : ℕ) (u : WorkUnit) (seen failure
 retry_told job s i u seen failures q now below same goes waits =
     let own : List Pull = own_pulls job s.held u in
     record {
-      supply = same ∙ ap Some (with_nothing s);
+      supply = same ∙ ap Some (with_none s);
       left =
           ap (λ b. cond b (record { unit = i; all = own; left = own; failures = failures + 1 } ∷ []) []) below
           ∙ (ap (λ (ps : List Pull). record { unit = i; all = own; left = ps; failures = failures + 1 } ∷ [])
@@ -92,7 +90,7 @@ pub gave_up_told : (job : Job) (s : Supply) (i : ℕ) (u : WorkUnit) (seen failu
 gave_up_told job s i u seen failures c now over same fault =
     let own : List Pull = own_pulls job s.held u in
     record {
-      supply = same ∙ ap Some (with_nothing s);
+      supply = same ∙ ap Some (with_none s);
       left = ap (λ b. cond b (record { unit = i; all = own; left = own; failures = failures + 1 } ∷ []) []) over;
       judged = fault ∙ sym (ap (λ b. cond b (failed Fault) (unit_verdict job s.held u))
           (not_above failures job.max_retries over));

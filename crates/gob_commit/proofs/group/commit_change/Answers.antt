@@ -7,11 +7,12 @@ use Rattle.gob_ledger.specs.Delta.{Change, change_of}
 use Rattle.gob_recovery.specs.Commits.{OnlyBelow, part_done}
 use Rattle.gob_recovery.specs.Sequence.{CommitStep}
 use Rattle.gob_recovery.proofs.Commits.{below_then}
+use Rattle.gob_recovery.proofs.Names.{file_pathname}
 use Rattle.gob_history.specs.Laws.{staged_state}
 use Rattle.gob_seq.specs.Maps.{CommitsByName, EndsAs, GoesOver, IsReady}
 use Rattle.gob_commit.specs.Going.{ChangeNamed, DoesChange}
 use Rattle.gob_commit.specs.Staged.{all_pairs}
-use Rattle.gob_commit.proofs.Fitting.{change_named, file_pathname, staged_state_named}
+use Rattle.gob_commit.proofs.Fitting.{change_named, staged_state_named}
 use Rattle.gob_commit.proofs.Stepping.{as_it_is, done_ends, done_rises, nothing_rises, ready_then, state_ends}
 use Rattle.gob_commit.proofs.Stepping.{where_there, written_below, written_rises}
 use Rattle.gob_commit.proofs.group.commit_change.Goals as goal

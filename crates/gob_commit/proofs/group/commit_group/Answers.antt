@@ -2,11 +2,12 @@ use Rattle.std.proofs.Common.{◌≡◌, ◌∙◌, ◌≤◌, ap, sym, subst, t
 use Rattle.std.specs.List.{list_all, list_any}
 use Rattle.gob_ledger.specs.Next.{is_good, next_state}
 use Rattle.gob_history.specs.Runs.{stored_where}
+use Rattle.gob_history.proofs.Keeps.{stored_some}
 use Rattle.gob_state.specs.Committed.{may_commit, verdicts_in}
 use Rattle.gob_commit.specs.Staged.{all_pairs, state_or}
 use Rattle.gob_commit.proofs.Committing.{Next, group_change, group_ends, group_leaves, group_rises, idle_ends}
 use Rattle.gob_commit.proofs.Committing.{idle_leaves}
-use Rattle.gob_commit.proofs.Committing.{idle_rises, stored_some}
+use Rattle.gob_commit.proofs.Committing.{idle_rises}
 use Rattle.gob_commit.proofs.Nexting.{changes_fit, follows_where, none_allowed, some_allowed}
 use Rattle.gob_commit.proofs.group.commit_group.Goals as goal
 

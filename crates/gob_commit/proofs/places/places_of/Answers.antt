@@ -5,10 +5,11 @@ use Rattle.std.specs.Cmp.Lexicographic.{slice_cmp}
 use Rattle.std.specs.Map.{lookup}
 use Rattle.std.specs.Ordering.{nat_cmp}
 use Rattle.std.proofs.lemmas.List.{take_all}
+use Rattle.gob_seq.proofs.Once.{Name}
 use Rattle.gob_plan.specs.declared.units.Unit.{Unit as WorkUnit}
 use Rattle.gob_ledger.specs.Groups.{dataset_of}
 use Rattle.gob_commit.specs.Groups.{PlacesAre}
-use Rattle.gob_commit.proofs.Placing.{Name, Places, placed_more}
+use Rattle.gob_commit.proofs.Placing.{Places, placed_more}
 use Rattle.gob_commit.proofs.places.places_of.Goals as goal
 
 pub loop-i-init : goal.loop-i-init

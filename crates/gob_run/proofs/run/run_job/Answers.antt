@@ -1,5 +1,6 @@
 use Rattle.std.proofs.Common.{ℕ, List, [], Ok, Err, refl, sym, subst, arith}
 use Rattle.std.proofs.lemmas.Result.{err_from_is_err_and}
+use Rattle.gob_recovery.proofs.Names.{file_pathname}
 use Rattle.gob_device.specs.Disk.{AddsMaps}
 use Rattle.gob_device.specs.Names.{IsPathname}
 use Rattle.gob_job.specs.Jobs.{job_from}
@@ -9,7 +10,6 @@ use Rattle.gob_run.specs.World.{World}
 use Rattle.gob_run.proofs.Answering.{answered_behind_work}
 use Rattle.gob_run.proofs.Began.{closed_of}
 use Rattle.gob_run.proofs.Called.{at_err}
-use Rattle.gob_run.proofs.Named.{file_pathname}
 use Rattle.gob_run.proofs.Refusing.{refused_at_cut, refused_at_entry}
 use Rattle.gob_run.proofs.Trailing.{EntrySays}
 use Rattle.gob_run.proofs.run.run_job.Goals as goal

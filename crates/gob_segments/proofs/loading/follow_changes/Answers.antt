@@ -1,8 +1,9 @@
 use Rattle.std.proofs.Common.{◌≡◌, ◌≤◌, ◌∙◌, refl, subst, sym, arith, rules, IfSome}
 use Rattle.std.proofs.lemmas.Result.{err_from_is_err_and}
+use Rattle.gob_bytes.proofs.Options.{always}
 use Rattle.gob_ledger.specs.Delta.{LeadOn}
 use Rattle.gob_segments.specs.Loading.{BlamesNext, BlamesSome, LedTo, RoseIfLoadFailed}
-use Rattle.gob_segments.proofs.Loads.{always, leads_all, leads_more, led_more, led_none, rose_on, stops_next}
+use Rattle.gob_segments.proofs.Loads.{leads_all, leads_more, led_more, led_none, rose_on, stops_next}
 use Rattle.gob_state.specs.Versions.{version_of}
 use Rattle.gob_segments.proofs.loading.follow_changes.Goals as goal
 

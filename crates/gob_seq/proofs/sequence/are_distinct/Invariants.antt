@@ -6,7 +6,7 @@ use Rattle.gob_seq.proofs.sequence.are_distinct.Given as goal
 
 abbrev pub invariant-loop-name : goal.invariant-loop-name
 invariant-loop-name l = record {
-  apart : IsDistinct bytes_eq (texts (take l.name-index l.names));
+  apart : IsDistinct bytes_eq (take l.name-index (texts l.names));
   seen : (q : Name) → bag.contains (λ (a b : Name). bytes_eq a.now b.now) l.seen q ≡ list_any (bytes_eq q.now)
-      (texts (take l.name-index l.names));
+      (take l.name-index (texts l.names));
 }

@@ -2,8 +2,8 @@ use Rattle.std.proofs.Common.{◌∙◌, Bor, ℕ, List, sym, ap, refl}
 use Rattle.std.proofs.Common.{rules}
 use Rattle.std.specs.List.{list_any}
 use Rattle.std.specs.Str.{bytes_eq}
-use Rattle.std.proofs.lemmas.Bool.{false≢true}
-use Rattle.gob_state.proofs.Once.{all_seen, apart_more, none_twice, seen_if, seen_more, seen_not, stands_twice}
+use Rattle.std.proofs.lemmas.Bool.{false≢true, not-false, not-true}
+use Rattle.gob_bytes.proofs.Once.{all_seen, apart_more, none_twice, seen_more, stands_twice}
 use Rattle.gob_state.proofs.pipelines.are_distinct.Goals as goal
 
 pub loop-pipeline-init : goal.loop-pipeline-init
@@ -15,7 +15,7 @@ loop-pipeline-init c = record {
 pub returns-then-not-branch : goal.returns-then-not-branch
 returns-then-not-branch c =
     let x = c.as_str.result in
-    let hit = seen_if _ (sym (c.in_ok-insert.ensures.added) ∙ c.if-not-branch.true) in (
+    let hit = not-false _ (sym (c.in_ok-insert.ensures.added) ∙ c.if-not-branch.true) in (
       λ e. absurd (false≢true e),
       λ apart. absurd (stands_twice c.args.pipelines.now c.loop-pipeline.pipeline-index x.now c.pipeline-item.result
           (search rules) (c.as_str.ensures ∙ c.pipeline-item.is) (sym (c.loop-pipeline.invariant.seen x) ∙ hit) apart),
@@ -25,7 +25,7 @@ pub loop-pipeline-preserved : goal.loop-pipeline-preserved
 loop-pipeline-preserved c =
     let x = c.as_str.result in
     let i = c.loop-pipeline.pipeline-index in
-    let new = seen_not _ (sym (c.in_ok-insert.ensures.added) ∙ c.if-not-branch.false) in
+    let new = not-true _ (sym (c.in_ok-insert.ensures.added) ∙ c.if-not-branch.false) in
     record {
       apart = apart_more c.args.pipelines.now i x.now c.pipeline-item.result (search rules)
           (c.as_str.ensures ∙ c.pipeline-item.is) c.loop-pipeline.invariant.apart

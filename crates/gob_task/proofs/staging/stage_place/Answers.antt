@@ -1,5 +1,5 @@
 use Rattle.std.proofs.Common.{◌≡◌, ◌≢◌, [], true, false}
-use Rattle.gob_task.proofs.Files.{file_pathname}
+use Rattle.gob_recovery.proofs.Names.{file_pathname}
 use Rattle.gob_task.proofs.Slots.{no_place_appended, place_appended}
 use Rattle.gob_task.proofs.Spelled.{name_told}
 use Rattle.gob_task.proofs.staging.stage_place.Goals as goal

@@ -2,13 +2,13 @@ use Rattle.std.proofs.Common.{◌≡◌, List, ℕ, Some, None, ap, sym, subst, 
 use Rattle.std.specs.declared.option.Option.{Option}
 use Rattle.gob_bytes.specs.Paths.{begins_with}
 use Rattle.gob_bytes.specs.Tables.{at_name}
+use Rattle.gob_bytes.proofs.Paths.{front_more}
 use Rattle.gob_device.specs.Disk.{Along, Disk, OnlyAt}
 use Rattle.gob_device.specs.Names.{IsPathname}
 use Rattle.gob_stage.specs.Attempt.{AreThere, is_begun, staged_name}
 use Rattle.gob_stage.specs.Stages.{HoldsMore, after_staging}
 use Rattle.gob_stage.proofs.Held.{both_told, holds_more, there_told}
 use Rattle.gob_stage.proofs.Maps.{appended_only, below_at, ok_both, ok_then, told_map}
-use Rattle.gob_stage.proofs.Names.{front_more}
 use Rattle.gob_stage.proofs.Opened.{Opened, begun_again, found_begun, found_name, found_path, not_begun, staged_begun}
 use Rattle.gob_stage.proofs.attempt.Attempt.append.Goals as goal
 

@@ -1,8 +1,8 @@
 use Rattle.std.proofs.Common.{sym, ap, subst, ◌∙◌, arith}
+use Rattle.gob_recovery.proofs.Names.{file_pathname}
 use Rattle.gob_device.specs.Names.{IsPathname}
 use Rattle.gob_stage.specs.Attempt.{new_attempt}
 use Rattle.gob_task.proofs.Begun.{begun_as, has_begun}
-use Rattle.gob_task.proofs.Files.{file_pathname}
 use Rattle.gob_task.proofs.task.Task.begin.Goals as goal
 
 pub new-requires-2 : goal.new-requires-2

@@ -1,4 +1,4 @@
--- The name of a job is one that a call may be given.
+-- What a file's name in a sequence is to a call.
 use Rattle.std.proofs.Common.{◌≡◌, ℕ, true, List, [], ◌∷◌, refl}
 use Rattle.gob_device.specs.Names.{IsPathname}
 use Rattle.gob_device.proofs.Names.{name_bytes}

@@ -1,5 +1,5 @@
 -- Texts that were seen, and whether one stands twice.
-use Rattle.std.proofs.Common.{◌≡◌, ◌<◌, ◌≤◌, ◌+◌, ℕ, zero, suc, Bool, true, false, cond, not, ◌||◌, List, [], ◌∷◌, ◌++◌}
+use Rattle.std.proofs.Common.{◌≡◌, ◌<◌, ◌≤◌, ◌+◌, ℕ, zero, suc, Bool, true, false, cond, ◌||◌, List, [], ◌∷◌, ◌++◌}
 use Rattle.std.proofs.Common.{length, take, get_or, refl, sym, ap, subst, ◌∙◌, arith}
 use Rattle.std.specs.Cmp.Lexicographic.{nat_list_eq_equiv}
 use Rattle.std.specs.List.{AllByRecursion, IsDistinct, list_any}
@@ -61,14 +61,6 @@ stands_twice (q ∷ ps) (suc i) p d below is hit apart =
     twice_or p q (list_any (bytes_eq p) (take i ps))
     (ap (bytes_eq q) is ∙ off_at ps i q d (omega (arith, below)) apart.0)
     (λ h. stands_twice ps i p d (omega (arith, below)) is h apart.1) hit
-
-pub seen_if : (b : Bool) → not b ≡ false → b ≡ true
-seen_if true e = refl
-seen_if false e = sym e
-
-pub seen_not : (b : Bool) → not b ≡ true → b ≡ false
-seen_not true e = sym e
-seen_not false e = refl
 
 pub all_seen : (ps : List (List ℕ)) (i : ℕ) → length ps ≤ i → IsDistinct bytes_eq (take i ps) → IsDistinct bytes_eq ps
 all_seen ps i all apart = subst (IsDistinct bytes_eq) (take_all i ps all) apart
