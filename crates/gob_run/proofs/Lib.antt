@@ -1,5 +1,6 @@
 pub mod Entering
 pub mod Readers
+pub mod World
 mod Lasting
 mod Reading
 mod Published
@@ -16,6 +17,6 @@ mod Apart
 mod Given
 mod Staging
 mod Filing
-pub mod Worked
+mod Worked
 mod Idle
 mod Called

@@ -52,6 +52,7 @@ use Rattle.gob_run.specs.declared.fault.RunFault.TheVariants.{Memory}
 use Rattle.gob_run.proofs.Filing.{all_staged_given, are_given_by, none_given}
 use Rattle.gob_run.proofs.Given.{AllGivenIn}
 use Rattle.gob_run.proofs.Staging.{run_staged}
+use Rattle.gob_run.proofs.World.{with_volume}
 
 -- ---- maps over what was loaded
 
@@ -241,10 +242,6 @@ pub record TurnsEnd (job : Job) (cut : Cut) (failing : List ℕ) (results : List
       → AreResults job s cut.units failing results new.supply new.disk
   pub given : (held : Held) × AllGivenIn job held cut.units results new.disk
   pub gave_up : RoseBy (given_up_in results * (job.max_retries + 1)) old.source_faults new.source_faults
-
--- the world with this volume
-abbrev pub with_volume : World → Option Disk → ℕ → World
-with_volume w disk faults = record w { disk = disk; volume_faults = faults }
 
 -- what commits say, whatever they answer
 pub record CommitsSay (job : Job) (rules : CommitRules) (l : Loaded) (units : List WorkUnit)

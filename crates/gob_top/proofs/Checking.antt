@@ -5,7 +5,7 @@ use Rattle.std.specs.declared.result.Result.TheVariants.{Err}
 use Rattle.gob_device.specs.Disk.{Disk}
 use Rattle.gob_texts.specs.Refusals as texts
 use Rattle.gob_run.specs.World.{World}
-use Rattle.gob_run.proofs.Worked.{with_volume}
+use Rattle.gob_run.proofs.World.{with_volume}
 use Rattle.gob_top.specs.Answers.{Told, refusal_told}
 use Rattle.gob_top.specs.Checks.{CheckAnswered, check_told, checked, failure, starved}
 use Rattle.gob_top.specs.Found.{NotFound}

@@ -15,7 +15,7 @@ use Rattle.gob_state.specs.Committed.{judged_by, verdicts_in}
 use Rattle.gob_texts.specs.Refusals as texts
 use Rattle.gob_run.specs.Answers.{Answer, RunAnswered}
 use Rattle.gob_run.specs.World.{World}
-use Rattle.gob_run.proofs.Worked.{with_volume}
+use Rattle.gob_run.proofs.World.{with_volume}
 use Rattle.gob_top.specs.Answers.{Tells, Told, refusal_told}
 use Rattle.gob_top.specs.Found.{NotFound}
 use Rattle.gob_top.specs.Found as found

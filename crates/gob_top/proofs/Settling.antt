@@ -27,7 +27,7 @@ use Rattle.gob_run.specs.declared.fault.RunFault.TheVariants as fault
 use Rattle.gob_run.proofs.Entering.{settling_trail}
 use Rattle.gob_run.proofs.Readers.{readers_of_settling}
 use Rattle.gob_run.proofs.Settled.{OnlySettle, only_settled, settle_alike, settled_to}
-use Rattle.gob_run.proofs.Worked.{with_volume}
+use Rattle.gob_run.proofs.World.{with_volume}
 use Rattle.gob_top.specs.Answers.{Told, refusal_told}
 use Rattle.gob_top.specs.Faults.{settle_refusal}
 use Rattle.gob_top.specs.Runs.{run_refusal}
