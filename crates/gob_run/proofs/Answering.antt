@@ -34,6 +34,7 @@ use Rattle.gob_run.specs.declared.fault.RunFault.TheVariants.{Damaged, Shrunk, F
 use Rattle.gob_run.proofs.Began.{Began, began_of, entry_of, found_is_one, not_broken, only_settled, parts_same}
 use Rattle.gob_run.proofs.Began.{settled_to}
 use Rattle.gob_run.proofs.Counting.{new_count_told}
+use Rattle.gob_run.proofs.Settled.{undamaged}
 use Rattle.gob_run.proofs.Trailing.{IsUnderway, TellsCut, cut_told, filed_of, left_of, published_of, trail_of}
 use Rattle.gob_run.proofs.Trailing.{units_are}
 
@@ -241,6 +242,10 @@ answered_behind_work job failing l cut a old mid new u w still = record {
             let same : went.0 ≡ b.0 = same_Some went.0 b.0 (sym went.1 ∙ still none ∙ b.1) in
             subst (OnlySettled job.name d) (sym same) (only_settled job.name l d b.0 b.2),
       );
+  damaged = λ d is.
+      let b = begun job l cut old mid d u is in
+      let went = w.filed b.0 b.1 (settled_is job.name d.files b.0.files b.2.settles) b.2.kept b.2.keeps b.2.loaded in
+      (went.0, went.1, undamaged job.name d went.0 b.0.files b.2.settles);
   pulled = subst (λ o. HasPulled o new.supply) u.supply w.pulled;
   failed = failures_after failing old.source_faults mid.source_faults new.source_faults u.goes_on.source w.failed;
   caused = caused_where job a old mid new u.goes_on w.stopped;

@@ -22,7 +22,7 @@ use Rattle.gob_seq.specs.Maps.{ImagesSettleTheSame, OnlyUnstages, SettlesByName}
 use Rattle.gob_run.specs.Cutting.{parts_of}
 use Rattle.gob_run.specs.Entry.{SettledEntry, IsBroken, OnlySettled, SettleAlike, SettledTo, sequence, state}
 use Rattle.gob_run.specs.Faults.{Finds}
-use Rattle.gob_run.proofs.Settled.{OnlySettle, settle_alike}
+use Rattle.gob_run.proofs.Settled.{OnlySettle, settle_alike, undamaged}
 use Rattle.gob_run.proofs.Wents.{adds_both, went_of}
 
 -- the volume is settled, and this was loaded
@@ -80,6 +80,7 @@ only_settled job l d c b = record {
   alike = b.alike;
   names = b.names;
   staged = b.staged;
+  damaged = undamaged job d c c.files b.settles;
 }
 
 pub settled_to : (job : List ℕ) (l : Loaded) (d c : Disk) → Began job l d c → SettledTo job d c

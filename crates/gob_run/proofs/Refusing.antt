@@ -36,8 +36,8 @@ use Rattle.gob_turns.proofs.Pulled.{pulled_nothing}
 use Rattle.gob_run.specs.Answers.{Answer, Completes, Due, FaultCaused, NoPull, PublishesGiven, PublishesOnly, PullsAre}
 use Rattle.gob_run.specs.Answers.{PullsAreOf, RunAnswered, StaysIdle, ToldFirst, TrailIs, groups_by}
 use Rattle.gob_run.specs.Cutting.{CutNot, NoRoom, ShrunkAt, parts_of}
-use Rattle.gob_run.specs.Entry.{SettledEntry, IsBroken, IsFull, IsFirstShrunk, LeftBroken, Refused, SettledTo}
-use Rattle.gob_run.specs.Entry.{broken, full, sequence, shrunk, state}
+use Rattle.gob_run.specs.Entry.{SettledEntry, IsBroken, IsFull, IsFirstShrunk, LeftBroken, OnlySettled, Refused}
+use Rattle.gob_run.specs.Entry.{SettledTo, StaysDamaged, broken, full, sequence, shrunk, state}
 use Rattle.gob_run.specs.Faults.{BeginsNot, Finds}
 use Rattle.gob_run.specs.World.{WorldGoesOn, WhereFiled, WhereSupplied, WhereTold, World}
 use Rattle.gob_run.specs.declared.fault.RunFault.{RunFault}
@@ -46,7 +46,7 @@ use Rattle.gob_run.proofs.Counting.{new_count_told}
 use Rattle.gob_run.proofs.Entering.{entering_trail}
 use Rattle.gob_run.proofs.Readers.{published_apart, readers_of_settling}
 use Rattle.gob_run.proofs.Reading.{readers_of_entering}
-use Rattle.gob_run.proofs.Settled.{AllSettle, OnlySettle, broken_one, broken_settled, only_settled, settle_alike}
+use Rattle.gob_run.proofs.Settled.{AllSettle, OnlySettle, both_settled, broken_one, broken_settled, settle_alike}
 use Rattle.gob_run.proofs.Settled.{settled_to}
 use Rattle.gob_run.proofs.Wents.{adds_both, went_of}
 
@@ -75,6 +75,7 @@ pub record StopsEarly (job : Job) (old new : World) : Type 0 where
   pub alike : Along (ImagesSettleTheSame job.name) old.disk new.disk
   pub names : Along (SettlesByName job.name) old.disk new.disk
   pub staged : Along (OnlyUnstages job.name) old.disk new.disk
+  pub damaged : Both (StaysDamaged job.name) old.disk new.disk
   pub below : Along (OnlyBelow (under job.name [])) old.disk new.disk
   pub unpulled : NoPull old new
   pub goes_on : WorldGoesOn old new
@@ -166,13 +167,9 @@ early_own job old new early d s in_old in_supply =
 
 early_idle : (job : Job) (old new : World) → StopsEarly job old new → WhereTold (StaysIdle job) old new
 early_idle job old new early d s in_old in_supply =
-    let t = early_maps job old new d early in_old in (
-      t.0,
-      s,
-      t.1,
-      early.unpulled ∙ in_supply,
-      λ owes. only_settled job.name d t.0 t.2,
-    )
+    let only = maps_both early.alike (maps_both early.names early.staged) in
+    let t = filed (OnlySettled job.name) old new (both_settled job.name old.disk new.disk only early.damaged) d in_old
+    in (t.0, s, t.1, early.unpulled ∙ in_supply, λ owes. t.2)
 
 none_failed : (before now : ℕ) → before ≤ now → FailuresRose [] before now
 none_failed before now later = record { rising = (0, refl); counted = omega (arith, later) }
@@ -188,6 +185,7 @@ early_answer job f old new early caused due completes = record {
   pulls = early_pulls job old new early.unpulled;
   own_pulls = early_own job old new early;
   idle = early_idle job old new early;
+  damaged = filed (StaysDamaged job.name) old new early.damaged;
   pulled = subst (HasPulled old.supply) (sym early.unpulled) (pulled_nothing old.supply);
   failed = none_failed old.source_faults new.source_faults early.goes_on.source;
   caused = caused;

@@ -4,15 +4,16 @@ use Rattle.std.specs.declared.option.Option.{Option}
 use Rattle.std.specs.declared.result.Result.{Result}
 use Rattle.std.specs.declared.result.Result.TheVariants.{Err}
 use Rattle.gob_bytes.proofs.Options.{if_both, always}
-use Rattle.gob_device.specs.Disk.{AddsMaps, Along, Both, Disk, EachFrom, EachOf, Files, Went}
+use Rattle.gob_device.specs.Disk.{AddsMaps, Along, Both, Disk, EachFrom, EachOf, Files, Went, last_map}
 use Rattle.gob_device.proofs.Causes.{rose_after}
 use Rattle.gob_device.proofs.Trail.{each-map}
 use Rattle.gob_ledger.specs.Delta.{StateDamaged}
 use Rattle.gob_ledger.proofs.OneDamage.{damage_is_one}
+use Rattle.gob_ledger.proofs.OneState.{same_some}
 use Rattle.gob_recovery.specs.Settle.{IsDamaged, Settles, SettlesAs}
 use Rattle.gob_recovery.proofs.Damaged.{one_damage}
 use Rattle.gob_recovery.proofs.Spelled.{to_one}
-use Rattle.gob_seq.specs.Faults.{Damages, RoseIfSettleFailed}
+use Rattle.gob_seq.specs.Faults.{DamageDue, Damages, RoseIfSettleFailed}
 use Rattle.gob_seq.specs.Maps.{EndsBy, ImagesSettleTheSame, OnlyUnstages, SettlesByName}
 use Rattle.gob_seq.specs.declared.faults.SettleFault.{SettleFault}
 use Rattle.gob_seq.specs.declared.faults.SettleFault.TheVariants as settle_fault
@@ -22,7 +23,8 @@ use Rattle.gob_segments.specs.declared.change.Loaded.{Loaded}
 use Rattle.gob_segments.specs.declared.faults.LoadFault.{LoadFault}
 use Rattle.gob_segments.specs.declared.faults.LoadFault.TheVariants as load_fault
 use Rattle.gob_run.specs.Answers.{ToldFirst}
-use Rattle.gob_run.specs.Entry.{IsBroken, LeftBroken, OnlySettled, SettleAlike, SettledTo, sequence, state}
+use Rattle.gob_run.specs.Entry.{IsBroken, LeftBroken, OnlySettled, SettleAlike, SettledTo, StaysDamaged, sequence}
+use Rattle.gob_run.specs.Entry.{state}
 use Rattle.gob_run.specs.Faults.{BeginsNot, Finds, run_of_load, run_of_settle}
 use Rattle.gob_run.specs.declared.fault.RunFault.{RunFault}
 use Rattle.gob_run.specs.declared.fault.RunFault.TheVariants.{Damaged}
@@ -40,15 +42,48 @@ abbrev pub OnlySettle : List ℕ → Files → List Files → Type 0
 OnlySettle job m added = EachFrom (ImagesSettleTheSame job) m added
     × (EachFrom (SettlesByName job) m added × EachFrom (OnlyUnstages job) m added)
 
-pub only_settled : (job : List ℕ) (d e : Disk) → Went (OnlySettle job) d e → OnlySettled job d e
-only_settled job d e w = record {
+only_settled : (job : List ℕ) (d e : Disk) → Went (OnlySettle job) d e → StaysDamaged job d e → OnlySettled job d e
+only_settled job d e w stays = record {
   added = w.added;
   trail = w.trail;
   stands = w.stands;
   alike = settle_alike job d.files w.added w.holds.0;
   names = w.holds.1.0;
   staged = w.holds.1.1;
+  damaged = stays;
 }
+
+-- the same of calls that may tell nothing
+pub both_settled : (job : List ℕ) (old new : Option Disk) → AddsMaps (OnlySettle job) old new
+    → Both (StaysDamaged job) old new → Both (OnlySettled job) old new
+both_settled job old new only stays = both old new only.told stays
+  where
+    both : (o n : Option Disk) → Both (Went (OnlySettle job)) o n → Both (StaysDamaged job) o n
+        → Both (OnlySettled job) o n
+    both None None w s = tt
+    both None (Some e) w s = w
+    both (Some d) None w s = w
+    both (Some d) (Some e) w s = only_settled job d e w s
+
+-- a call behind which the volume tells, and which left it as it was where the sequence is damaged
+pub stays_damaged : {T : Type 0} (job : List ℕ) (r : Result T SettleFault) {old between new : Option Disk}
+    → Along (SettlesByName job) old between
+    → IfSome old (λ d. (name : List ℕ) → IsDamaged job d.files name → DamageDue name r × (between ≡ old))
+    → new ≡ between → Both (StaysDamaged job) old new
+stays_damaged job r {old} {between} {new} names due same =
+    subst (Both (StaysDamaged job) old) (sym same) (both old between names.told due)
+  where
+    both : (o n : Option Disk) → Both (Went (EachFrom (SettlesByName job))) o n
+        → IfSome o (λ d. (name : List ℕ) → IsDamaged job d.files name → DamageDue name r × (n ≡ o))
+        → Both (StaysDamaged job) o n
+    both None None w due = tt
+    both None (Some e) w due = w
+    both (Some d) None w due = w
+    both (Some d) (Some e) w due = λ name is. same_some e d (due name is).1
+
+-- files that can be settled aren't damaged
+pub undamaged : (job : List ℕ) (d e : Disk) (settled : Files) → Settles job d.files settled → StaysDamaged job d e
+undamaged job d e settled settles name is = absurd ((one_damage job d.files name is).unsettled settled settles)
 
 -- the maps lead to the one to which the first one settles
 abbrev pub AllSettle : List ℕ → Files → List Files → Type 0
@@ -57,7 +92,8 @@ AllSettle job m added = EndsBy (Settles job) m added × OnlySettle job m added
 pub settled_to : (job : List ℕ) (d e : Disk) → Went (AllSettle job) d e → SettledTo job d e
 settled_to job d e w = record {
   only = only_settled job d e
-      (record { added = w.added; trail = w.trail; stands = w.stands; holds = w.holds.1 });
+      (record { added = w.added; trail = w.trail; stands = w.stands; holds = w.holds.1 })
+      (undamaged job d e (last_map d.files w.added) w.holds.0);
   settles = subst (Settles job d.files) (sym w.stands) w.holds.0;
 }
 

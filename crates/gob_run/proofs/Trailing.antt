@@ -6,7 +6,7 @@ use Rattle.std.specs.declared.option.Option.{Option}
 use Rattle.std.specs.List.{Contains}
 use Rattle.gob_bytes.specs.Paths.{under}
 use Rattle.gob_history.proofs.Fronts.{published_unstaged}
-use Rattle.gob_device.specs.Disk.{AddsMaps, Along, Disk, EachOf, Files, Went, last_map}
+use Rattle.gob_device.specs.Disk.{AddsMaps, Along, Both, Disk, EachOf, Files, Went, last_map}
 use Rattle.gob_device.specs.Supply.{Held, Supply}
 use Rattle.gob_device.proofs.Trail.{each-append, each-map, last-append}
 use Rattle.gob_meaning.specs.Job.{Job}
@@ -30,6 +30,7 @@ use Rattle.gob_state.specs.Committed.{verdicts_in}
 use Rattle.gob_state.specs.declared.next.Outcome.{Outcome}
 use Rattle.gob_run.specs.Answers.{PublishesGiven, RunIsFiled, RunIsLeft, TrailIs, groups_by}
 use Rattle.gob_run.specs.Cutting.{CutFits, CutIsTold, parts_of}
+use Rattle.gob_run.specs.Entry.{StaysDamaged}
 use Rattle.gob_run.specs.Faults.{Finds}
 use Rattle.gob_run.specs.Working.{FiledAlong, FiledToEnd, WentAlong, WentOver, WentToEnd, groups_over}
 use Rattle.gob_run.specs.World.{WorldGoesOn, World}
@@ -45,6 +46,7 @@ pub record EntrySays (job : List ℕ) (old mid : Option Disk) (before now : ℕ)
   pub alike : Along (ImagesSettleTheSame job) old mid
   pub names : Along (SettlesByName job) old mid
   pub staged : Along (OnlyUnstages job) old mid
+  pub damaged : Both (StaysDamaged job) old mid
   pub below : Along (OnlyBelow (under job [])) old mid
   pub later : before ≤ now
 

@@ -33,7 +33,7 @@ use Rattle.gob_state.specs.Committed.{judged_by, verdicts_in}
 use Rattle.gob_state.specs.declared.next.Outcome.{Outcome}
 use Rattle.gob_turns.specs.Taken.{FailuresRose, HasPulled, given_up_in}
 use Rattle.gob_run.specs.Entry.{SettledEntry, IsFull, IsFirstShrunk, LeftBroken, IsBroken, OnlySettled, Refused}
-use Rattle.gob_run.specs.Entry.{SettledTo, TooMany}
+use Rattle.gob_run.specs.Entry.{SettledTo, StaysDamaged, TooMany}
 use Rattle.gob_run.specs.World.{WorldGoesOn, WhereFiled, WhereSupplied, WhereTold, World}
 use Rattle.gob_run.specs.declared.fault.RunFault.{RunFault}
 use Rattle.gob_run.specs.declared.fault.RunFault.TheVariants.{Damaged, Shrunk, Full, SourceFault, VolumeFault, Memory}
@@ -227,6 +227,7 @@ pub record RunAnswered (job : Job) (failing : List ℕ) (a : Answer) (old new : 
   pub pulls : WhereSupplied (PullsAre job failing) old new
   pub own_pulls : WhereTold (PullsAreOf job failing) old new
   pub idle : WhereTold (StaysIdle job) old new
+  pub damaged : WhereFiled (StaysDamaged job.name) old new
   pub pulled : HasPulled old.supply new.supply
   pub failed : FailuresRose failing old.source_faults new.source_faults
   pub caused : IfErr a (FaultCaused job old new)

@@ -30,9 +30,13 @@ abbrev pub SettleAlike : List ℕ → Files → List Files → Type 0
 SettleAlike job m added = (settled : Files) → NoTornSequence job m → Settles job m settled
     → EachOf (SettlesAs job settled) added
 
+-- where the open sequence is damaged nothing was changed
+abbrev pub StaysDamaged : List ℕ → Disk → Disk → Type 0
+StaysDamaged job d e = (name : List ℕ) → IsDamaged job d.files name → e ≡ d
+
 -- nothing was changed but what settling changes: outside the staging each name but the open sequence's holds what it
 -- held, or what settling leaves there, and a staged one what it held, or nothing; where settling was stopped the files
--- may not be settled yet
+-- may not be settled yet, and where it isn't defined nothing was changed at all
 pub record OnlySettled (job : List ℕ) (d e : Disk) : Type 0 where
   pub added : List Files
   pub trail : e.trail ≡ d.trail ++ added
@@ -40,6 +44,7 @@ pub record OnlySettled (job : List ℕ) (d e : Disk) : Type 0 where
   pub alike : SettleAlike job d.files added
   pub names : EachOf (SettlesByName job d.files) added
   pub staged : EachOf (OnlyUnstages job d.files) added
+  pub damaged : StaysDamaged job d e
 
 -- the files are settled, and nothing else was changed
 pub record SettledTo (job : List ℕ) (d e : Disk) : Type 0 where

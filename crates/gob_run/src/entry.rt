@@ -1,13 +1,13 @@
 //! How a run begins.
 ghost use Rattle.std.specs.Prelude.{◌≤◌, ℕ, List, [], IfErr, IfOk, IfSome};
 ghost use Rattle.gob_bytes.specs.Paths.{under};
-ghost use Rattle.gob_device.specs.Disk.{AddsMaps, Along};
+ghost use Rattle.gob_device.specs.Disk.{AddsMaps, Along, Both};
 ghost use Rattle.gob_device.specs.Names.{IsPathname};
 ghost use Rattle.gob_recovery.specs.Commits.{OnlyBelow};
 ghost use Rattle.gob_seq.specs.Maps.{ImagesSettleTheSame, OnlyUnstages, SettlesByName};
 ghost use Rattle.gob_segments.specs.Loading.{LoadedFits};
 ghost use Rattle.gob_run.specs.Answers.{ToldFirst};
-ghost use Rattle.gob_run.specs.Entry.{IsBroken};
+ghost use Rattle.gob_run.specs.Entry.{IsBroken, StaysDamaged};
 ghost use Rattle.gob_run.specs.Faults.{BeginsNot, Finds};
 ghost use Rattle.gob_run.specs.declared.fault.RunFault.TheVariants.{Damaged};
 
@@ -29,6 +29,7 @@ pub fn settle_and_load<V: Volume>(
     ensures alike { Along (ImagesSettleTheSame job.now) (V.disk volume.old) (V.disk volume.new) }
     ensures readers { Along (SettlesByName job.now) (V.disk volume.old) (V.disk volume.new) }
     ensures unstages { Along (OnlyUnstages job.now) (V.disk volume.old) (V.disk volume.new) }
+    ensures damaged { Both (StaysDamaged job.now) (V.disk volume.old) (V.disk volume.new) }
     ensures below { Along (OnlyBelow (under job.now [])) (V.disk volume.old) (V.disk volume.new) }
     ensures stopped { IfErr result (BeginsNot job.now (V.disk volume.old) (V.disk volume.new)
         (V.faults volume.old) (V.faults volume.new)) }

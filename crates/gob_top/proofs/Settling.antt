@@ -6,7 +6,7 @@ use Rattle.std.specs.declared.result.Result.{Result}
 use Rattle.std.specs.declared.result.Result.TheVariants.{Ok, Err}
 use Rattle.gob_bytes.specs.Paths.{sequence_name, under}
 use Rattle.gob_device.specs.Disk.{AddsMaps, Along, Both, Disk, EachFrom, Files, Went, last_map}
-use Rattle.gob_device.proofs.Trail.{maps_map}
+use Rattle.gob_device.proofs.Trail.{both_map, maps_map}
 use Rattle.gob_recovery.specs.Commits.{OnlyBelow}
 use Rattle.gob_recovery.specs.Settle.{IsDamaged, Settles}
 use Rattle.gob_seq.specs.Faults.{DamageDue, Damages, RoseIfSettleFailed}
@@ -19,14 +19,14 @@ use Rattle.gob_segments.specs.declared.change.Loaded.{Loaded}
 use Rattle.gob_texts.specs.Commands.{recovery_report, state_report}
 use Rattle.gob_texts.specs.Refusals as texts
 use Rattle.gob_run.specs.Answers as run
-use Rattle.gob_run.specs.Entry.{SettledEntry, IsBroken, LeftBroken, OnlySettled, SettledTo}
+use Rattle.gob_run.specs.Entry.{SettledEntry, IsBroken, LeftBroken, OnlySettled, SettledTo, StaysDamaged}
 use Rattle.gob_run.specs.Faults.{BeginsNot, Finds}
 use Rattle.gob_run.specs.World.{WhereFiled, World}
 use Rattle.gob_run.specs.declared.fault.RunFault.{RunFault}
 use Rattle.gob_run.specs.declared.fault.RunFault.TheVariants as fault
 use Rattle.gob_run.proofs.Entering.{settling_trail}
 use Rattle.gob_run.proofs.Readers.{readers_of_settling}
-use Rattle.gob_run.proofs.Settled.{OnlySettle, only_settled, settle_alike, settled_to}
+use Rattle.gob_run.proofs.Settled.{OnlySettle, both_settled, settle_alike, settled_to}
 use Rattle.gob_run.proofs.World.{with_volume}
 use Rattle.gob_top.specs.Answers.{Told, refusal_told}
 use Rattle.gob_top.specs.Faults.{settle_refusal}
@@ -36,17 +36,22 @@ use Rattle.gob_top.specs.Settlings.{SettlingTrail, TellsFirst, damaged, failure,
 
 -- ---- the maps on the way
 
--- where the volume tells, this holds of its maps
+-- where the volume tells, this holds of what it tells
+where_both : (P : Disk → Disk → Type 0) (w : World) (old new : Option Disk) (before now : ℕ) → Both P old new
+    → WhereFiled P (with_volume w old before) (with_volume w new now)
+where_both P w old new before now b = λ d here. told old new b d here
+  where
+    told : (o n : Option Disk) → Both P o n → (d : Disk) → o ≡ Some d → (e : Disk) × (n ≡ Some e) × P d e
+    told None n b d here = absurd (let no : None ≡ Some d = here in cc)
+    told (Some c) None b d here = absurd b
+    told (Some c) (Some e) b d here = let same : c ≡ d = cc in (e, refl, subst (λ x. P x e) same b)
+
+-- the same of its maps
 where_filed : {Q : Files → List Files → Type 0} (P : Disk → Disk → Type 0) (w : World) (old new : Option Disk)
     (before now : ℕ) → ((d e : Disk) → Went Q d e → P d e) → AddsMaps Q old new
     → WhereFiled P (with_volume w old before) (with_volume w new now)
-where_filed {Q} P w old new before now weaker a = λ d here. told old new a.told d here
-  where
-    told : (o n : Option Disk) → Both (Went Q) o n → (d : Disk) → o ≡ Some d → (e : Disk) × (n ≡ Some e) × P d e
-    told None n b d here = absurd (let no : None ≡ Some d = here in cc)
-    told (Some c) None b d here = absurd b
-    told (Some c) (Some e) b d here =
-        let same : c ≡ d = cc in (e, refl, subst (λ x. P x e) same (weaker c e b))
+where_filed {Q} P w old new before now weaker a =
+    where_both P w old new before now (both_map (Went Q) P weaker old new a.told)
 
 -- each map settles as the first one does, and holds by name what that one or the settled one does
 abbrev SettleBoth : List ℕ → Files → List Files → Type 0
@@ -68,6 +73,7 @@ pub record OnItsWay (job : List ℕ) (old new : Option Disk) (before now : ℕ) 
   pub images : Along (ImagesSettleTheSame job) old new
   pub names : Along (SettlesByName job) old new
   pub staged : Along (OnlyUnstages job) old new
+  pub damaged : Both (StaysDamaged job) old new
   pub below : Along (OnlyBelow (under job [])) old new
   pub later : before ≤ now
 
@@ -79,7 +85,7 @@ only_settles : (job : List ℕ) (w : World) (old new : Option Disk) (before now 
     → OnlySettles job (with_volume w old before) (with_volume w new now)
 only_settles job w old new before now way = record {
   trail = where_filed (SettlingTrail job) w old new before now (trail_settles job) (maps_both way.images way.names);
-  only = where_filed (OnlySettled job) w old new before now (only_settled job) (on_its_way way);
+  only = where_both (OnlySettled job) w old new before now (both_settled job old new (on_its_way way) way.damaged);
   below = way.below;
   source = record { supply = refl; faults = refl; planned = refl };
   goes_on = record { source = omega arith; planned = omega arith; volume = way.later };
@@ -191,15 +197,6 @@ loaded_due job (Some d) l t due = λ name is. never name (due name is)
     never name (inl same) = absurd (cc)
     never name (inr (inl same)) = absurd (cc)
     never name (inr (inr same)) = absurd (cc)
-
-where_both : (P : Disk → Disk → Type 0) (w : World) (old new : Option Disk) (before now : ℕ) → Both P old new
-    → WhereFiled P (with_volume w old before) (with_volume w new now)
-where_both P w old new before now b = λ d here. told old new b d here
-  where
-    told : (o n : Option Disk) → Both P o n → (d : Disk) → o ≡ Some d → (e : Disk) × (n ≡ Some e) × P d e
-    told None n b d here = absurd (let no : None ≡ Some d = here in cc)
-    told (Some c) None b d here = absurd b
-    told (Some c) (Some e) b d here = let same : c ≡ d = cc in (e, refl, subst (λ x. P x e) same b)
 
 fault_reported : (job : List ℕ) (w : World) (old new : Option Disk) (before now : ℕ) (f : RunFault) (t : Told)
     → BeginsNot job old new before now f → t ≡ refusal_told (run_refusal f)

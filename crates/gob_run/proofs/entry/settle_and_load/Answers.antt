@@ -1,4 +1,4 @@
-use Rattle.std.proofs.Common.{[], ap, subst, sym, ◌∙◌}
+use Rattle.std.proofs.Common.{[], ap, refl, subst, sym, ◌∙◌}
 use Rattle.std.proofs.lemmas.Result.{err_from_is_err_and}
 use Rattle.std.specs.declared.result.Result.{Result}
 use Rattle.std.specs.declared.result.Result.TheVariants.{Err}
@@ -10,8 +10,8 @@ use Rattle.gob_seq.proofs.Trails.{maps_both}
 use Rattle.gob_segments.specs.declared.change.Loaded.{Loaded}
 use Rattle.gob_run.specs.Faults.{BeginsNot, run_of_load, run_of_settle}
 use Rattle.gob_run.specs.declared.fault.RunFault.{RunFault}
-use Rattle.gob_run.proofs.Settled.{finds, found_unbroken, load_stops, load_tells, settle_stops}
-use Rattle.gob_run.proofs.Settled.{settle_tells, stops_with}
+use Rattle.gob_run.proofs.Settled.{finds, found_unbroken, load_stops, load_tells, settle_stops, settle_tells}
+use Rattle.gob_run.proofs.Settled.{stays_damaged, stops_with}
 use Rattle.gob_run.proofs.entry.settle_and_load.Goals as goal
 
 pub returns-in_err-settle-clause-stopped : goal.returns-in_err-settle-clause-stopped
@@ -96,3 +96,15 @@ pub returns-clause-unstages : goal.returns-clause-unstages
 returns-clause-unstages g c =
     subst (Along (OnlyUnstages c.args.job.now) (g.V.Volume.disk c.args.volume.now)) (sym c.load.ensures.disk)
     c.settle.ensures.unstages
+
+pub returns-in_err-settle-clause-damaged : goal.returns-in_err-settle-clause-damaged
+returns-in_err-settle-clause-damaged g c =
+    stays_damaged c.args.job.now _ c.settle.ensures.readers c.settle.ensures.due refl
+
+pub returns-in_err-loaded-clause-damaged : goal.returns-in_err-loaded-clause-damaged
+returns-in_err-loaded-clause-damaged g c =
+    stays_damaged c.args.job.now _ c.settle.ensures.readers c.settle.ensures.due c.load.ensures.disk
+
+pub returns-clause-damaged : goal.returns-clause-damaged
+returns-clause-damaged g c =
+    stays_damaged c.args.job.now _ c.settle.ensures.readers c.settle.ensures.due c.load.ensures.disk

@@ -39,6 +39,7 @@ returns-in_err-loaded g c =
       alike = c.settle_and_load.ensures.alike;
       names = c.settle_and_load.ensures.readers;
       staged = c.settle_and_load.ensures.unstages;
+      damaged = c.settle_and_load.ensures.damaged;
       below = c.settle_and_load.ensures.below;
       later = c.settle_and_load.ensures.goes_on;
     }) in
@@ -54,6 +55,7 @@ returns-in_err-loaded g c =
       alike = says.alike;
       names = says.names;
       staged = says.staged;
+      damaged = says.damaged;
       below = says.below;
       unpulled = refl;
       goes_on = record { source = omega arith; planned = omega arith; volume = says.later };
@@ -83,6 +85,7 @@ returns-in_err-cut g c =
       alike = c.settle_and_load.ensures.alike;
       names = c.settle_and_load.ensures.readers;
       staged = c.settle_and_load.ensures.unstages;
+      damaged = c.settle_and_load.ensures.damaged;
       below = c.settle_and_load.ensures.below;
       later = c.settle_and_load.ensures.goes_on;
     }) in
@@ -99,6 +102,7 @@ returns-in_err-cut g c =
       alike = says.alike;
       names = says.names;
       staged = says.staged;
+      damaged = says.damaged;
       below = says.below;
       unpulled = c.cut_over.ensures.supply;
       goes_on = record {
@@ -146,6 +150,7 @@ returns-in_err-outcome g c =
       alike = c.settle_and_load.ensures.alike;
       names = c.settle_and_load.ensures.readers;
       staged = c.settle_and_load.ensures.unstages;
+      damaged = c.settle_and_load.ensures.damaged;
       below = c.settle_and_load.ensures.below;
       later = c.settle_and_load.ensures.goes_on;
     }) in
@@ -204,6 +209,7 @@ returns g c =
       alike = c.settle_and_load.ensures.alike;
       names = c.settle_and_load.ensures.readers;
       staged = c.settle_and_load.ensures.unstages;
+      damaged = c.settle_and_load.ensures.damaged;
       below = c.settle_and_load.ensures.below;
       later = c.settle_and_load.ensures.goes_on;
     }) in
