@@ -3,8 +3,7 @@
 use Rattle.std.proofs.Common.{◌≡◌, ℕ, ◌-◌, ◌^◌, true, false, List, [], ◌∷◌, None, Some, refl, arith}
 use Rattle.std.specs.Prelude.{codes}
 use Rattle.gob_device.specs.Causes.{Rose, RoseBy, one_more}
-use Rattle.gob_device.specs.Disk.{File, FileImage, Files, clean, contents_at, dirty, last_map, no_files}
-use Rattle.gob_device.specs.Disk.{put}
+use Rattle.gob_device.specs.Disk.{File, FileImage, Files, clean, contents_at, dirty, last_map, no_files, put}
 use Rattle.gob_device.specs.Disk.{after_append, after_create, after_remove, after_rename, after_sync}
 use Rattle.gob_device.specs.Names.{is_pathname}
 use Rattle.gob_device.specs.Output.{with_write}

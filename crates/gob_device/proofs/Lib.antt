@@ -3,6 +3,5 @@ pub mod Examples
 pub mod Looks
 pub mod Names
 pub mod Trail
-pub mod Writes
 pub mod Only
 pub mod Supply

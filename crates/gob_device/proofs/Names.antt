@@ -1,5 +1,5 @@
 -- Names that a call may be given.
-use Rattle.std.proofs.Common.{◌≡◌, ◌≢◌, ℕ, zero, suc, Bool, true, false, ◌&&◌, List, [], ◌∷◌, ◌++◌, refl}
+use Rattle.std.proofs.Common.{◌≡◌, ℕ, zero, suc, Bool, true, false, ◌&&◌, List, [], ◌∷◌, ◌++◌, refl}
 use Rattle.std.proofs.Math.Dec.{eqb-suc-zero}
 use Rattle.std.specs.List.{list_all}
 use Rattle.gob_device.specs.Names.{is_name_byte, IsPathname}
@@ -20,10 +20,6 @@ name_bytes fits nul [] all = refl
 name_bytes fits nul (b ∷ bs) all =
     let first = both (fits b) (list_all fits bs) all in
     rw (name_byte fits nul b first.0) (name_bytes fits nul bs first.1)
-
-pub bytes_named : (name : List ℕ) → name ≢ [] → list_all is_name_byte name ≡ true → IsPathname name
-bytes_named [] some all = absurd (some refl)
-bytes_named (b ∷ bs) some all = all
 
 pub bytes_of_name : (name : List ℕ) → IsPathname name → list_all is_name_byte name ≡ true
 bytes_of_name [] named = cc

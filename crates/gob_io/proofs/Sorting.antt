@@ -24,6 +24,12 @@ pub record NextFits (items : Held) (done : ℕ) (name bytes : List ℕ) : Type 0
   pub next : (name, bytes) ≡ get_or items done (name, bytes)
   pub fits : length bytes ≤ 2 ^ 63 - 1
 
+-- a part that is taken out leaves the front as it is
+pub front_stays : {parts items left : Held} {done : ℕ} → Sorting parts items done → left ≡ remove items done
+    → take done left ≡ take done items
+front_stays {parts} {items} {left} {done} at is = ap (take done) is
+    ∙ take_at (take done items) (drop (suc done) items) done (length-take-le done items at.within)
+
 next_named : (parts items : Held) (done : ℕ) (name bytes : List ℕ) → Sorting parts items done
     → NextFits items done name bytes → name ≢ []
 next_named parts items done name bytes at next none =

@@ -19,9 +19,9 @@ after_tear-Torn name step m = record {
 }
 
 -- a failed append or sync that left its file dirty
-pub torn_failed : (name : List ℕ) (step : Files → Files) (before now : Disk)
+pub torn_failed : {name : List ℕ} {step : Files → Files} {before now : Disk}
     → now ≡ after_change (after_tear name) before → FailedChange (Torn name step) before now
-torn_failed name step before now is = subst (FailedChange (Torn name step) before) (sym is) (record {
+torn_failed {name} {step} {before} is = subst (FailedChange (Torn name step) before) (sym is) (record {
   files = after_tear-Torn name step before.files;
   trail = inl refl;
 })
@@ -37,9 +37,9 @@ crashed_image tail m left is = λ name. let back : after_crash tail m ≡ left =
     subst (FileImage (m name)) (λ i. back i name) (settled_image tail (m name))
 
 -- and one that changed nothing
-pub still_failed : (name : List ℕ) (step : Files → Files) (before now : Disk) → now ≡ before
+pub still_failed : {name : List ℕ} {step : Files → Files} {before now : Disk} → now ≡ before
     → FailedChange (Torn name step) before now
-still_failed name step before now is = subst (FailedChange (Torn name step) before) (sym is) (record {
+still_failed {name} {step} {before} is = subst (FailedChange (Torn name step) before) (sym is) (record {
   files = record { others = λ other apart. refl; kept = inl refl };
   trail = inr (refl, refl);
 })

@@ -20,24 +20,21 @@ pub map-without : (t : Table File) (name : List ℕ) → IsInByteOrder (names_of
 map-without t name rising = λ i q. at-without t name q rising i
 
 -- a file that was changed in its place
-pub record InPlace (t : Table File) (name : List ℕ) (place : ℕ) (before : List ℕ × File) : Type 0 where
-  pub rising : IsInByteOrder (names_of t)
-  pub stands : StandsAt t name place
-  pub read : before ≡ get_or t place before
-
-pub map-changed : (change : File → File) (t : Table File) (name : List ℕ) (place : ℕ) (before : List ℕ × File)
-    (left : File) → InPlace t name place before → left ≡ change before.1
+pub map-changed : (change : File → File) {t : Table File} {name : List ℕ} {place : ℕ} {before : List ℕ × File}
+    {left : File} → IsInByteOrder (names_of t) → StandsAt t name place → before ≡ get_or t place before
+    → left ≡ change before.1
     → at_name (set t place (before.0, left)) ≡ put (at_name t) name (option_map change (at_name t name))
-map-changed change t name place before left at is =
-    let there : at_name t name ≡ Some before.1 = at-changed t name place before at.rising at.stands at.read in
-    ap at_name (with-changed t name place before left at.stands at.read)
+map-changed change {t} {name} {place} {before} {left} rising stands read is =
+    let there : at_name t name ≡ Some before.1 = at-changed t name place before rising stands read in
+    ap at_name (with-changed t name place before left stands read)
     ∙ map-with t name left
     ∙ ap (put (at_name t) name) (ap Some is ∙ sym (ap (option_map change) there))
 
-pub rising-changed : (t : Table File) (name : List ℕ) (place : ℕ) (before : List ℕ × File) (left : File)
-    → InPlace t name place before → IsInByteOrder (names_of (set t place (before.0, left)))
-rising-changed t name place before left at = subst (λ u. IsInByteOrder (names_of u))
-    (sym (with-changed t name place before left at.stands at.read)) (rising-with_name t name left at.rising)
+pub rising-changed : (left : File) {t : Table File} {name : List ℕ} {place : ℕ} {before : List ℕ × File}
+    → IsInByteOrder (names_of t) → StandsAt t name place → before ≡ get_or t place before
+    → IsInByteOrder (names_of (set t place (before.0, left)))
+rising-changed left {t} {name} {place} {before} rising stands read = subst (λ u. IsInByteOrder (names_of u))
+    (sym (with-changed t name place before left stands read)) (rising-with_name t name left rising)
 
 -- ---- a file that gets another name
 

@@ -21,10 +21,10 @@ replays : (m : Files) (calls : List Call) (since : ℕ) → IsReplayed m calls s
 replays m calls since at = λ i name. at.agrees name i
 
 -- one call more is one map more
-pub trail-more : (m : Files) (calls : List Call) (since : ℕ) (call : Call) → IsReplayed m calls since
+pub trail-more : {m : Files} {calls : List Call} {since : ℕ} (call : Call) → IsReplayed m calls since
     → trail_of (calls ++ call ∷ []) since ≡ trail_of calls since ++ map_step_of call m ∷ []
 unfolding trail_of
-trail-more m calls since call at =
+trail-more {m} {calls} {since} call at =
     let base : Files = map_after no_files (take since calls) in
     let whole : map_after base (drop since calls) ≡ m =
     map-split no_files (take since calls) (drop since calls) ∙ ap (map_after no_files) (take-append-drop since calls)
@@ -35,9 +35,9 @@ trail-more m calls since call at =
     ∙ maps-more base (drop since calls) call
     ∙ ap (λ n. maps_after base (drop since calls) ++ map_step_of call n ∷ []) whole
 
-pub replayed-more : (m n : Files) (calls : List Call) (since : ℕ) (call : Call) → IsReplayed m calls since
+pub replayed-more : {m n : Files} {calls : List Call} {since : ℕ} (call : Call) → IsReplayed m calls since
     → n ≡ map_step_of call m → IsReplayed n (calls ++ call ∷ []) since
-replayed-more m n calls since call at is = record {
+replayed-more {m} {n} {calls} {since} call at is = record {
   agrees = λ name.
       let all : n ≡ map_after no_files (calls ++ call ∷ []) = is
       ∙ (ap (map_step_of call) (replays m calls since at) ∙ map-split no_files calls (call ∷ [])) in

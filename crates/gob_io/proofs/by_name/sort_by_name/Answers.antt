@@ -1,27 +1,20 @@
-use Rattle.std.proofs.Common.{◌≡◌, sym, ap, subst, ◌∙◌, suc, length, take, drop, arith}
-use Rattle.std.proofs.lemmas.List.{take_at, length-take-le}
+use Rattle.std.proofs.Common.{sym, ap, subst, ◌∙◌, length, take, arith}
 use Rattle.gob_bytes.specs.Tables.{names_of, IsInByteOrder}
 use Rattle.gob_memory.specs.Places.{StandsAt, GoesAt}
 use Rattle.gob_io.proofs.Listed.{rising_held}
-use Rattle.gob_io.proofs.Sorting.{sorts_there, sorts_new, NextFits}
+use Rattle.gob_io.proofs.Sorting.{front_stays, sorts_there, sorts_new, NextFits}
 use Rattle.gob_io.proofs.by_name.sort_by_name.Goals as goal
 
 pub find-requires : goal.find-requires
 find-requires c =
-    let items = c.loop-done.parts.items in
-    let done = c.loop-done.done in
-    let front : take done c.deref.result.now ≡ take done items =
-    ap (take done) (c.deref.ensures.value ∙ c.remove-name.ensures.items)
-    ∙ take_at (take done items) (drop (suc done) items) done (length-take-le done items c.loop-done.invariant.within) in
-    subst (λ t. IsInByteOrder (names_of t)) (sym front) (rising_held (take done items) c.loop-done.invariant.listed)
+    let front = front_stays c.loop-done.invariant (c.deref.ensures.value ∙ c.remove-name.ensures.items) in
+    subst (λ t. IsInByteOrder (names_of t)) (sym front) (rising_held _ c.loop-done.invariant.listed)
 
 pub loop-done-preserved-in-Ok : goal.loop-done-preserved-in-Ok
 loop-done-preserved-in-Ok c =
     let items = c.loop-done.parts.items in
     let done = c.loop-done.done in
-    let front : take done c.deref.result.now ≡ take done items =
-    ap (take done) (c.deref.ensures.value ∙ c.remove-name.ensures.items)
-    ∙ take_at (take done items) (drop (suc done) items) done (length-take-le done items c.loop-done.invariant.within) in
+    let front = front_stays c.loop-done.invariant (c.deref.ensures.value ∙ c.remove-name.ensures.items) in
     let next : NextFits items done c.remove-name.result.0 c.remove-name.result.1 = record {
       here = omega arith;
       next = c.remove-name.ensures.value;
@@ -36,9 +29,7 @@ pub loop-done-preserved : goal.loop-done-preserved
 loop-done-preserved c =
     let items = c.loop-done.parts.items in
     let done = c.loop-done.done in
-    let front : take done c.deref.result.now ≡ take done items =
-    ap (take done) (c.deref.ensures.value ∙ c.remove-name.ensures.items)
-    ∙ take_at (take done items) (drop (suc done) items) done (length-take-le done items c.loop-done.invariant.within) in
+    let front = front_stays c.loop-done.invariant (c.deref.ensures.value ∙ c.remove-name.ensures.items) in
     let next : NextFits items done c.remove-name.result.0 c.remove-name.result.1 = record {
       here = omega arith;
       next = c.remove-name.ensures.value;

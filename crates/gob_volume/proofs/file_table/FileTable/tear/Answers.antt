@@ -1,18 +1,13 @@
 use Rattle.gob_volume.specs.Crashes.{after_tear, torn_file}
-use Rattle.gob_volume.proofs.Tables.{InPlace, map-changed, rising-changed}
+use Rattle.gob_volume.proofs.Tables.{map-changed, rising-changed}
 use Rattle.gob_volume.proofs.file_table.FileTable.tear.Goals as goal
 
 pub invariant_of-self : goal.invariant_of-self
 invariant_of-self c = record {
-  rising = rising-changed c.args.self.now.entries.items c.args.name.now c.place_of-place.result c.index_mut.result.now
-      c.tear.new.self
-      (record { rising = c.args.self.now.rising; stands = c.place_of-place.ensures; read = c.index_mut.ensures.value });
+  rising = rising-changed c.tear.new.self c.args.self.now.rising c.place_of-place.ensures c.index_mut.ensures.value;
 }
 
 pub returns : goal.returns
 unfolding after_tear
 returns c =
-    let at : InPlace c.args.self.now.entries.items c.args.name.now c.place_of-place.result c.index_mut.result.now =
-    record { rising = c.args.self.now.rising; stands = c.place_of-place.ensures; read = c.index_mut.ensures.value } in
-    map-changed torn_file c.args.self.now.entries.items c.args.name.now c.place_of-place.result c.index_mut.result.now
-    c.tear.new.self at c.tear.ensures
+    map-changed torn_file c.args.self.now.rising c.place_of-place.ensures c.index_mut.ensures.value c.tear.ensures

@@ -1,25 +1,11 @@
-use Rattle.gob_device.specs.Disk.{after_sync}
-use Rattle.gob_volume.specs.Stores.{disk_of}
 use Rattle.gob_volume.proofs.Failing.{still_failed, torn_failed}
 use Rattle.gob_volume.proofs.mem_volume.MemVolumeVolume.sync.Goals as goal
 
 pub returns-in-Ok-clause-change : goal.returns-in-Ok-clause-change
-returns-in-Ok-clause-change c = record {
-  ok = tt;
-  err = torn_failed c.args.name.now (after_sync c.args.name.now) (disk_of c.args.self.now.store)
-      (disk_of c.tear.new.self) c.in-Ok.ensures.ok;
-}
+returns-in-Ok-clause-change c = record { ok = tt; err = torn_failed c.in-Ok.ensures.ok }
 
 pub returns-in-Err-clause-change : goal.returns-in-Err-clause-change
-returns-in-Err-clause-change c = record {
-  ok = tt;
-  err = still_failed c.args.name.now (after_sync c.args.name.now) (disk_of c.args.self.now.store)
-      (disk_of c.tear.new.self) c.in-Err.ensures.err;
-}
+returns-in-Err-clause-change c = record { ok = tt; err = still_failed c.in-Err.ensures.err }
 
 pub returns-in-Err-sync-clause-change : goal.returns-in-Err-sync-clause-change
-returns-in-Err-sync-clause-change c = record {
-  ok = tt;
-  err = still_failed c.args.name.now (after_sync c.args.name.now) (disk_of c.args.self.now.store)
-      (disk_of c.sync.new.self) c.in-Err-sync.ensures.err;
-}
+returns-in-Err-sync-clause-change c = record { ok = tt; err = still_failed c.in-Err-sync.ensures.err }
