@@ -158,6 +158,14 @@ along_last R same d e w =
 
 -- ---- stretches of maps
 
+-- no map of the further stretches
+pub rises_more : {X : Type 0} (P : X → Files → Type 0) (xs ys : List X) (ms : List Files)
+    → Rises P xs ms → Rises P (xs ++ ys) ms
+unfolding Rises
+rises_more P [] [] ms r = r
+rises_more P [] (y ∷ ys) ms r = ([], ms, refl, tt, rises_more P [] ys ms r)
+rises_more P (x ∷ xs) ys ms r = (r.0, r.1, r.2, r.3, rises_more P xs ys r.1 r.4)
+
 -- maps that rise up to a member, and then others that rise from it, rise along both
 pub rises_on : {X : Type 0} (P : X → Files → Type 0) (xs : List X) (x : X) (ys : List X) (ms ns : List Files)
     → Rises P (xs ++ x ∷ []) ms → Rises P (x ∷ ys) ns → Rises P (xs ++ x ∷ ys) (ms ++ ns)

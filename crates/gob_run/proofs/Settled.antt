@@ -9,7 +9,7 @@ use Rattle.gob_device.proofs.Causes.{rose_after}
 use Rattle.gob_device.proofs.Trail.{each-map}
 use Rattle.gob_ledger.specs.Delta.{StateDamaged}
 use Rattle.gob_ledger.proofs.OneDamage.{damage_is_one}
-use Rattle.gob_ledger.proofs.OneState.{same_some}
+use Rattle.std.proofs.lemmas.Option.{same_Some}
 use Rattle.gob_recovery.specs.Settle.{IsDamaged, Settles, SettlesAs}
 use Rattle.gob_recovery.proofs.Damaged.{one_damage}
 use Rattle.gob_recovery.proofs.Spelled.{to_one}
@@ -79,7 +79,7 @@ stays_damaged job r {old} {between} {new} names due same =
     both None None w due = tt
     both None (Some e) w due = w
     both (Some d) None w due = w
-    both (Some d) (Some e) w due = λ name is. same_some e d (due name is).1
+    both (Some d) (Some e) w due = λ name is. same_Some e d (due name is).1
 
 -- files that can be settled aren't damaged
 pub undamaged : (job : List ℕ) (d e : Disk) (settled : Files) → Settles job d.files settled → StaysDamaged job d e
