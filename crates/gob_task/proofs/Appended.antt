@@ -170,10 +170,10 @@ so_far_below es a b old now new before since s below =
     (subst (λ folder. Along (OnlyBelow folder) now new) (ap (λ v. v.folder) s.appended.attempt ∙ after_folder es a)
     below)
 
-pub so_far_more : (es fs gs : Appends) (a b c : AttemptValue) (old now new : Option Disk) (before since after : ℕ)
+pub so_far_more : {es fs gs : Appends} {a b c : AttemptValue} {old now new : Option Disk} {before since after : ℕ}
     → gs ≡ es ++ fs → SoFar es a b old now before since → Appended fs b c now new → Along (OnlyBelow b.folder) now new
     → since ≤ after → SoFar gs a c old new before after
-so_far_more es fs gs a b c old now new before since after is s appended below later = record {
+so_far_more {es} {fs} {gs} {a} {b} {c} {old} {now} {new} {before} {since} {after} is s appended below later = record {
   appended = subst (λ g. Appended g a c old new) (sym is) (append_then es fs a b c old now new s.appended appended);
   below = so_far_below es a b old now new before since s below;
   later = omega (arith, s.later, later);

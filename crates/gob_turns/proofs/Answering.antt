@@ -184,23 +184,24 @@ still_below rules u i t v turn.Whole old mid disk is taken still along first =
     (below_in v.staged.folder (attempt_folder rules.job i t.failures) mid.disk disk
     (whole_folder rules u i t v old mid is taken) along)
 
-pub keeps_taken : (rules : TurnRulesValue) (u : WorkUnit) (i : ℕ) (p : Progress) (t v : TaskValue) (r : Turn)
-    (old mid new : Devices) → TaskHere rules u i p t old.supply old.disk
+pub keeps_taken : {rules : TurnRulesValue} {u : WorkUnit} {i : ℕ} {p : Progress} {t v : TaskValue} {r : Turn}
+    {old mid new : Devices} → TaskHere rules u i p t old.supply old.disk
     → TurnDone rules t v (Ok r) old mid → StaysStill r mid.disk new.disk
     → Along (OnlyBelow v.staged.folder) mid.disk new.disk → new.supply ≡ mid.supply
     → new.source_faults ≡ mid.source_faults → new.plan_faults ≡ mid.plan_faults → mid.volume_faults ≤ new.volume_faults
     → KeepsOthers rules i old new
-keeps_taken rules u i p t v r old mid new here done still along supply faults planned later = record {
-  failures = t.failures;
-  small = here.is.stands.was.small.1;
-  below = still_below rules u i t v r old mid new.disk here.is done.answered still along
-      (below_in t.staged.folder (attempt_folder rules.job i t.failures) old.disk mid.disk
-      (folder_of rules u i t old.supply old.disk here.is) done.below);
-  source = (let up = done.source in omega (arith, up, faults));
-  planned = planned ∙ done.planned;
-  volume = (let up = done.volume in omega (arith, up, later));
-  pulls = subst (λ x. AtMostOnePull old.supply x) (sym supply) (taken_pulls rules t v r old mid done.answered);
-}
+keeps_taken {rules} {u} {i} {p} {t} {v} {r} {old} {mid} {new} here done still along supply faults planned later =
+    record {
+      failures = t.failures;
+      small = here.is.stands.was.small.1;
+      below = still_below rules u i t v r old mid new.disk here.is done.answered still along
+          (below_in t.staged.folder (attempt_folder rules.job i t.failures) old.disk mid.disk
+          (folder_of rules u i t old.supply old.disk here.is) done.below);
+      source = (let up = done.source in omega (arith, up, faults));
+      planned = planned ∙ done.planned;
+      volume = (let up = done.volume in omega (arith, up, later));
+      pulls = subst (λ x. AtMostOnePull old.supply x) (sym supply) (taken_pulls rules t v r old mid done.answered);
+    }
 
 -- ---- a good unit
 
@@ -218,13 +219,14 @@ whole_then rules u i t v r old mid is taken same = whole (subst (λ x. TurnTaken
 
 -- ---- the turn as a whole
 
-pub has_turned : (rules : TurnRulesValue) (u : WorkUnit) (i : ℕ) (p q : Progress) (t v : TaskValue) (r : Turn)
-    (fails ends : Bool) (old mid new : Devices) → 0 < rules.piece → StandsAs rules u i old.supply old.disk p
+pub has_turned : {rules : TurnRulesValue} {u : WorkUnit} {i : ℕ} {p q : Progress} {t v : TaskValue} {r : Turn}
+    {fails ends : Bool} {old mid new : Devices} → 0 < rules.piece → StandsAs rules u i old.supply old.disk p
     → TaskHere rules u i p t old.supply old.disk → TurnTaken rules t v r old mid
     → StandsThen rules r v mid.disk new.disk q → new.supply ≡ mid.supply → new.source_faults ≡ mid.source_faults
     → fails ≡ fails_in r → ends ≡ not (is_open q)
     → HasTurned rules i u p q (record { failed = fails; ended = ends }) old new
-has_turned rules u i p q t v r fails ends old mid new some stands here taken then supply faults is_failed is_ended =
+has_turned {rules} {u} {i} {p} {q} {t} {v} {r} {fails} {ends} {old} {mid} {new} some stands here taken
+    then supply faults is_failed is_ended =
     let facts : TurnFacts rules i u p q fails old new =
     subst (λ b. TurnFacts rules i u p q b old new) (sym is_failed)
     (turn_facts rules i u p q t v r old mid new some stands here.next taken then supply faults) in

@@ -30,11 +30,11 @@ pub record IsAtHand (units : List WorkUnit) (listed : List ℕ) (states : List P
   pub unit : picked.unit ≡ u
   pub state : picked.state ≡ p
 
-pub picked_of : (rules : TurnRulesValue) (turns : TurnRules) (units : List WorkUnit) (listed : List ℕ)
-    (states : List Progress) (core : CoreValue) (k n : ℕ) (losses : List ℕ) (first now : Devices)
+pub picked_of : {rules : TurnRulesValue} {turns : TurnRules} {units : List WorkUnit} {listed : List ℕ}
+    {states : List Progress} {core : CoreValue} {k n : ℕ} {losses : List ℕ} {first now : Devices}
     → AreUnderway rules turns units listed states core k losses first now
     → whose_turn core.rules core.place core.left ≡ Some n → IsPicked units listed states core n
-picked_of rules turns units listed states core k n losses first now under is =
+picked_of {rules} {turns} {units} {listed} {states} {core} {k} {n} {losses} {first} {now} under is =
     is_picked units listed states core n under.rising under.left is
 
 pub place_within : (units : List WorkUnit) (listed : List ℕ) (states : List Progress) (core : CoreValue) (n x : ℕ)
@@ -68,11 +68,11 @@ moved F i j u v p q place unit state is =
 
 -- ---- what the turn is given
 
-pub stands_here : (rules : TurnRulesValue) (turns : TurnRules) (units : List WorkUnit) (listed : List ℕ)
-    (states : List Progress) (core : CoreValue) (k n x : ℕ) (u : WorkUnit) (p : Progress) (losses : List ℕ)
-    (first now : Devices) → AreUnderway rules turns units listed states core k losses first now
+pub stands_here : {rules : TurnRulesValue} {turns : TurnRules} {units : List WorkUnit} {listed : List ℕ}
+    {states : List Progress} {core : CoreValue} {k n x : ℕ} {u : WorkUnit} {p : Progress} {losses : List ℕ}
+    {first now : Devices} → AreUnderway rules turns units listed states core k losses first now
     → IsAtHand units listed states core n x u p → StandsAs rules u x now.supply now.disk p
-stands_here rules turns units listed states core k n x u p losses first now under hand =
+stands_here {rules} {turns} {units} {listed} {states} {core} {k} {n} {x} {u} {p} {losses} {first} {now} under hand =
     let picked = hand.picked in
     moved (λ i v q. StandsAs rules v i now.supply now.disk q) picked.place x picked.unit u picked.state p hand.place
     hand.unit hand.state
@@ -82,12 +82,13 @@ pub may_here : (units : List WorkUnit) (listed : List ℕ) (states : List Progre
     (u : WorkUnit) (p : Progress) → IsAtHand units listed states core n x u p → is_open p ≡ true
 may_here units listed states core n x u p hand = subst (λ q. is_open q ≡ true) hand.state hand.picked.may
 
-pub pullable_here : (rules : TurnRulesValue) (turns : TurnRules) (units : List WorkUnit) (listed : List ℕ)
-    (states : List Progress) (core : CoreValue) (k n x : ℕ) (u : WorkUnit) (p : Progress) (losses : List ℕ)
-    (first now : Devices) → MayHaveTurns rules turns units
+pub pullable_here : {rules : TurnRulesValue} {turns : TurnRules} {units : List WorkUnit} {listed : List ℕ}
+    {states : List Progress} {core : CoreValue} {k n x : ℕ} {u : WorkUnit} {p : Progress} {losses : List ℕ}
+    {first now : Devices} → MayHaveTurns rules turns units
     → AreUnderway rules turns units listed states core k losses first now
     → IsAtHand units listed states core n x u p → IsPullable u
-pullable_here rules turns units listed states core k n x u p losses first now may under hand =
+pullable_here {rules} {turns} {units} {listed} {states} {core} {k} {n} {x} {u} {p} {losses} {first} {now} may under
+    hand =
     let picked = hand.picked in
     subst IsPullable hand.unit
     (may.pullable picked.unit (contains_at units picked.place picked.unit picked.of_unit)
@@ -108,12 +109,13 @@ keeps_all rules i old new keeps = record {
 
 -- ---- where it was stopped
 
-pub stopped_here : (rules : TurnRulesValue) (turns : TurnRules) (units : List WorkUnit) (listed : List ℕ)
-    (states : List Progress) (core : CoreValue) (k n x : ℕ) (u : WorkUnit) (p : Progress) (losses : List ℕ)
-    (old now : Devices) → MayHaveTurns rules turns units → IsAtHand units listed states core n x u p
+pub stopped_here : {rules : TurnRulesValue} {turns : TurnRules} {units : List WorkUnit} {listed : List ℕ}
+    {states : List Progress} {core : CoreValue} {k n x : ℕ} {u : WorkUnit} {p : Progress} {losses : List ℕ}
+    {old now : Devices} → MayHaveTurns rules turns units → IsAtHand units listed states core n x u p
     → StoppedIsTold rules x u p old now → KeepsOthers rules x old now → (first : Devices)
     → AreUnderway rules turns units listed states core k losses first old → IsLeft rules turns units losses first now
-stopped_here rules turns units listed states core k n x u p losses old now may hand stopped keeps first under =
+stopped_here {rules} {turns} {units} {listed} {states} {core} {k} {n} {x} {u} {p} {losses} {old} {now} may hand stopped
+    keeps first under =
     let picked = hand.picked in
     stopped_left rules turns units listed states core k losses first old now n may under picked
     (moved (λ i v q. StoppedIsTold rules i v q old now) x picked.place u picked.unit p picked.state (sym hand.place)
@@ -129,13 +131,14 @@ turned_here rules units listed states core n x u p q step old now hand turned =
     moved (λ i v r. HasTurned rules i v r q step old now) x picked.place u picked.unit p picked.state (sym hand.place)
     (sym hand.unit) (sym hand.state) turned
 
-pub unnoted_here : (rules : TurnRulesValue) (turns : TurnRules) (units : List WorkUnit) (listed : List ℕ)
-    (states : List Progress) (core : CoreValue) (k n x : ℕ) (u : WorkUnit) (p q : Progress) (step : Step)
-    (losses kept : List ℕ) (old now : Devices) → MayHaveTurns rules turns units
+pub unnoted_here : {rules : TurnRulesValue} {turns : TurnRules} {units : List WorkUnit} {listed : List ℕ}
+    {states : List Progress} {core : CoreValue} {k n x : ℕ} {u : WorkUnit} {p q : Progress} {step : Step}
+    {losses kept : List ℕ} {old now : Devices} → MayHaveTurns rules turns units
     → IsAtHand units listed states core n x u p → HasTurned rules x u p q step old now → KeepsOthers rules x old now
     → kept ≡ losses → step.failed ≡ true → (first : Devices)
     → AreUnderway rules turns units listed states core k losses first old → IsLeft rules turns units kept first now
-unnoted_here rules turns units listed states core k n x u p q step losses kept old now may hand turned keeps same fails
+unnoted_here {rules} {turns} {units} {listed} {states} {core} {k} {n} {x} {u} {p} {q} {step} {losses} {kept} {old}
+    {now} may hand turned keeps same fails
     first under =
     subst (λ ns. IsLeft rules turns units ns first now) (sym same)
     (unnoted_left rules turns units listed states core k losses first old now n q step may under hand.picked
@@ -143,14 +146,15 @@ unnoted_here rules turns units listed states core k n x u p q step losses kept o
 
 -- ---- behind it
 
-pub went_here : (rules : TurnRulesValue) (turns : TurnRules) (units : List WorkUnit) (listed : List ℕ)
-    (states : List Progress) (core after : CoreValue) (k n x : ℕ) (u : WorkUnit) (p q : Progress) (step : Step)
-    (losses kept : List ℕ) (first old now : Devices) → MayHaveTurns rules turns units
+pub went_here : {rules : TurnRulesValue} {turns : TurnRules} {units : List WorkUnit} {listed : List ℕ}
+    {states : List Progress} {core after : CoreValue} {k n x : ℕ} {u : WorkUnit} {p q : Progress} {step : Step}
+    {losses kept : List ℕ} (first old now : Devices) → MayHaveTurns rules turns units
     → IsAtHand units listed states core n x u p → HasTurned rules x u p q step old now → KeepsOthers rules x old now
     → after ≡ core_after step.ended n core → kept ≡ cond step.failed (losses ++ k ∷ []) losses
     → AreUnderway rules turns units listed states core k losses first old
     → AreUnderway rules turns units listed (set states x q) after (k + 1) kept first now
-went_here rules turns units listed states core after k n x u p q step losses kept first old now may hand turned keeps
+went_here {rules} {turns} {units} {listed} {states} {core} {after} {k} {n} {x} {u} {p} {q} {step} {losses} {kept} first
+    old now may hand turned keeps
     core_is kept_is under =
     let picked = hand.picked in
     subst (λ ns. AreUnderway rules turns units listed (set states x q) after (k + 1) ns first now) (sym kept_is)
@@ -162,11 +166,11 @@ went_here rules turns units listed states core after k n x u p q step losses kep
     (turned_here rules units listed states core n x u p q step old now hand turned)
     (subst (λ i. KeepsOthers rules i old now) (sym hand.place) keeps))))
 
-pub fewer_here : (rules : TurnRulesValue) (units : List WorkUnit) (listed : List ℕ) (states : List Progress)
-    (core : CoreValue) (n x : ℕ) (u : WorkUnit) (p q : Progress) (step : Step) (old now : Devices)
+pub fewer_here : {rules : TurnRulesValue} {units : List WorkUnit} {listed : List ℕ} {states : List Progress}
+    {core : CoreValue} {n x : ℕ} {u : WorkUnit} {p q : Progress} {step : Step} {old now : Devices}
     → (hand : IsAtHand units listed states core n x u p) → HasTurned rules x u p q step old now
     → all_ahead rules.max_retries units (set states x q) < all_ahead rules.max_retries units states
-fewer_here rules units listed states core n x u p q step old now hand turned =
+fewer_here {rules} {units} {listed} {states} {core} {n} {x} {u} {p} {q} {step} {old} {now} hand turned =
     let picked = hand.picked in
     let here = turned_here rules units listed states core n x u p q step old now hand turned in
     let fewer = here.fewer in
@@ -176,9 +180,9 @@ fewer_here rules units listed states core n x u p q step old now hand turned =
     hand.place
     (omega (arith, sums, fewer))
 
-pub fits_here : (rules : TurnRulesValue) (turns : TurnRules) (units : List WorkUnit) (listed : List ℕ)
-    (states : List Progress) (core : CoreValue) (k : ℕ) (losses : List ℕ) (first old : Devices) (later : ℕ)
+pub fits_here : {rules : TurnRulesValue} {turns : TurnRules} {units : List WorkUnit} {listed : List ℕ}
+    {states : List Progress} {core : CoreValue} {k : ℕ} {losses : List ℕ} {first old : Devices} {later : ℕ}
     → AreUnderway rules turns units listed states core k losses first old
     → later < all_ahead rules.max_retries units states → k + 1 < 2 ^ 128
-fits_here rules turns units listed states core k losses first old later under fewer =
+fits_here {rules} {turns} {units} {listed} {states} {core} {k} {losses} {first} {old} {later} under fewer =
     let ahead = under.ahead in omega (arith, ahead, fewer)

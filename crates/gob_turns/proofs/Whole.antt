@@ -66,13 +66,13 @@ pub record IsOver (rules : TurnRulesValue) (turns : TurnRules) (units : List Wor
   pub under : AreUnderway rules turns units listed states core k losses first now
   pub ended : HaveEnded rules turns units states losses first now
 
-pub is_over : (rules : TurnRulesValue) (turns same : TurnRules) (units : List WorkUnit) (listed : List ℕ)
-    (states : List Progress) (core : CoreValue) (k : ℕ) (losses : List ℕ) (first now : Devices)
+pub is_over : {rules : TurnRulesValue} {turns same : TurnRules} {units : List WorkUnit} {listed : List ℕ}
+    {states : List Progress} {core : CoreValue} {k : ℕ} {losses : List ℕ} {first now : Devices}
     → MayHaveTurns rules turns units → same ≡ turns
     → AreUnderway rules same units listed states core k losses first now
     → whose_turn core.rules core.place core.left ≡ None
     → IsOver rules turns units listed states core k losses first now
-is_over rules turns same units listed states core k losses first now may is under none =
+is_over {rules} {turns} {same} {units} {listed} {states} {core} {k} {losses} {first} {now} may is under none =
     let here : AreUnderway rules turns units listed states core k losses first now =
     subst (λ t. AreUnderway rules t units listed states core k losses first now) is under in
     record {
@@ -80,43 +80,44 @@ is_over rules turns same units listed states core k losses first now may is unde
       ended = have_ended rules turns units listed states core k losses first now may here none;
     }
 
-pub left_over : (rules : TurnRulesValue) (turns : TurnRules) (units : List WorkUnit) (listed : List ℕ)
-    (states : List Progress) (core : CoreValue) (k : ℕ) (losses : List ℕ) (first now : Devices)
+pub left_over : {rules : TurnRulesValue} {turns : TurnRules} {units : List WorkUnit} {listed : List ℕ}
+    {states : List Progress} {core : CoreValue} {k : ℕ} {losses : List ℕ} {first now : Devices}
     → IsOver rules turns units listed states core k losses first now → IsLeft rules turns units losses first now
-left_over rules turns units listed states core k losses first now over =
+left_over {rules} {turns} {units} {listed} {states} {core} {k} {losses} {first} {now} over =
     underway_left rules turns units listed states core k losses first now over.under
 
-pub results_over : (rules : TurnRulesValue) (turns : TurnRules) (units : List WorkUnit) (listed : List ℕ)
-    (states : List Progress) (core : CoreValue) (k : ℕ) (losses : List ℕ) (first now : Devices)
-    (results : List UnitResult) → IsOver rules turns units listed states core k losses first now
+pub results_over : {rules : TurnRulesValue} {turns : TurnRules} {units : List WorkUnit} {listed : List ℕ}
+    {states : List Progress} {core : CoreValue} {k : ℕ} {losses : List ℕ} {first now : Devices}
+    {results : List UnitResult} → IsOver rules turns units listed states core k losses first now
     → results ≡ results_in states → (job : Job) (s : Supply) → IsWorkedBy rules turns job → first.supply ≡ Some s
     → AreHeld s.held units → AreResults job s units losses results now.supply now.disk
-results_over rules turns units listed states core k losses first now results over same job s works told held =
+results_over {rules} {turns} {units} {listed} {states} {core} {k} {losses} {first} {now} {results} over same job s
+    works told held =
     are_results rules turns units listed states core k losses first now results job s over.under over.ended same works
     told held
 
-pub given_over : (rules : TurnRulesValue) (turns : TurnRules) (units : List WorkUnit) (listed : List ℕ)
-    (states : List Progress) (core : CoreValue) (k : ℕ) (losses : List ℕ) (first now : Devices)
-    (results : List UnitResult) → IsOver rules turns units listed states core k losses first now
+pub given_over : {rules : TurnRulesValue} {turns : TurnRules} {units : List WorkUnit} {listed : List ℕ}
+    {states : List Progress} {core : CoreValue} {k : ℕ} {losses : List ℕ} {first now : Devices}
+    {results : List UnitResult} → IsOver rules turns units listed states core k losses first now
     → results ≡ results_in states → (job : Job) → IsWorkedBy rules turns job → AllGiven job units results now.disk
-given_over rules turns units listed states core k losses first now results over same job works =
+given_over {rules} {turns} {units} {listed} {states} {core} {k} {losses} {first} {now} {results} over same job works =
     subst (λ rs. AllGiven job units rs now.disk) (sym same)
     (all_given rules turns units states losses first now job works.name works.plan over.ended)
 
-pub committable_over : (rules : TurnRulesValue) (turns : TurnRules) (units : List WorkUnit) (listed : List ℕ)
-    (states : List Progress) (core : CoreValue) (k : ℕ) (losses : List ℕ) (first now : Devices)
-    (results : List UnitResult) → MayHaveTurns rules turns units
+pub committable_over : {rules : TurnRulesValue} {turns : TurnRules} {units : List WorkUnit} {listed : List ℕ}
+    {states : List Progress} {core : CoreValue} {k : ℕ} {losses : List ℕ} {first now : Devices}
+    {results : List UnitResult} → MayHaveTurns rules turns units
     → IsOver rules turns units listed states core k losses first now → results ≡ results_in states
     → AreCommittable rules.job units results now.disk
-committable_over rules turns units listed states core k losses first now results may over same =
+committable_over {rules} {turns} {units} {listed} {states} {core} {k} {losses} {first} {now} {results} may over same =
     are_committable rules turns units states losses first now results may over.ended same
 
-pub given_up_over : (rules : TurnRulesValue) (turns : TurnRules) (units : List WorkUnit) (listed : List ℕ)
-    (states : List Progress) (core : CoreValue) (k : ℕ) (losses : List ℕ) (first now : Devices)
-    (results : List UnitResult) → IsOver rules turns units listed states core k losses first now
+pub given_up_over : {rules : TurnRulesValue} {turns : TurnRules} {units : List WorkUnit} {listed : List ℕ}
+    {states : List Progress} {core : CoreValue} {k : ℕ} {losses : List ℕ} {first now : Devices}
+    {results : List UnitResult} → IsOver rules turns units listed states core k losses first now
     → results ≡ results_in states
     → RoseBy (given_up_in results * (rules.max_retries + 1)) first.source_faults now.source_faults
-given_up_over rules turns units listed states core k losses first now results over same =
+given_up_over {rules} {turns} {units} {listed} {states} {core} {k} {losses} {first} {now} {results} over same =
     let counted = over.under.counted in
     let few = over.ended.given_up in
     subst (λ rs. RoseBy (given_up_in rs * (rules.max_retries + 1)) first.source_faults now.source_faults) (sym same)
@@ -124,11 +125,11 @@ given_up_over rules turns units listed states core k losses first now results ov
 
 -- ---- the rules of the core stay as they are
 
-pub with_rules : (rules : TurnRulesValue) (turns same : TurnRules) (units : List WorkUnit) (listed : List ℕ)
-    (states : List Progress) (core : CoreValue) (k : ℕ) (losses : List ℕ) (first now : Devices) → turns ≡ same
+pub with_rules : {rules : TurnRulesValue} {turns same : TurnRules} {units : List WorkUnit} {listed : List ℕ}
+    {states : List Progress} {core : CoreValue} {k : ℕ} {losses : List ℕ} {first now : Devices} → turns ≡ same
     → AreUnderway rules turns units listed states core k losses first now
     → AreUnderway rules same units listed states core k losses first now
-with_rules rules turns same units listed states core k losses first now is under =
+with_rules {rules} {turns} {same} {units} {listed} {states} {core} {k} {losses} {first} {now} is under =
     subst (λ t. AreUnderway rules t units listed states core k losses first now) is under
 
 pub left_with : (rules : TurnRulesValue) (turns same : TurnRules) (units : List WorkUnit) (losses : List ℕ)

@@ -16,7 +16,7 @@ loop-slot-init g c = record {
 
 pub loop-slot-preserved : goal.loop-slot-preserved
 loop-slot-preserved g c = record {
-  so_far = so_far_more _ _ _ _ _ _ _ _ _ _ _ _
+  so_far = so_far_more
       (next_slot c.args.plan.now c.args.unit.now c.args.buffers.now c.loop-slot.slot c.slot.result.now
       c.slot.ensures.found)
       c.loop-slot.invariant.so_far c.in_ok-stage_slot.ensures.appended c.stage_slot.ensures.below

@@ -16,7 +16,7 @@ loop-place-init g c = record { so_far = so_far_none _ _ _; spelled = c.requires.
 
 pub loop-place-preserved : goal.loop-place-preserved
 loop-place-preserved g c = record {
-  so_far = so_far_more _ _ _ _ _ _ _ _ _ _ _ _
+  so_far = so_far_more
       (next_place c.args.plan.now c.args.unit.now c.args.slot c.args.places.now c.loop-place.place-index
       c.loop-place-item.result (omega arith) c.loop-place-item.is) c.loop-place.invariant.so_far
       c.in_ok-stage_place.ensures.appended c.stage_place.ensures.below c.stage_place.ensures.cause.later;

@@ -36,19 +36,19 @@ pub returns-in_err-progress-clause-keeps : goal.returns-in_err-progress-clause-k
 returns-in_err-progress-clause-keeps g c =
     let here = task_here _ _ _ _ _ _ _ _ _ c.requires.stands c.replace-was.ensures.value c.in_ok-task.ensures
     c.deref_mut.ensures.value in
-    keeps_taken _ _ _ _ _ _ _ _ _ _ here c.in_ok-turn.ensures.turn c.progress_after.ensures.still
+    keeps_taken here c.in_ok-turn.ensures.turn c.progress_after.ensures.still
     c.progress_after.ensures.below refl refl refl c.progress_after.ensures.cause.later
 
 pub returns-clause-turned : goal.returns-clause-turned
 returns-clause-turned g c =
     let here = task_here _ _ _ _ _ _ _ _ _ c.requires.stands c.replace-was.ensures.value c.in_ok-task.ensures
     c.deref_mut.ensures.value in
-    has_turned _ _ _ _ _ _ _ _ _ _ _ _ _ c.requires.some c.requires.stands here c.in_ok-turn.ensures.turn.answered
+    has_turned c.requires.some c.requires.stands here c.in_ok-turn.ensures.turn.answered
     c.in_ok-progress.ensures.stands refl refl c.has_failed.ensures c.has_ended.ensures
 
 pub returns-clause-keeps : goal.returns-clause-keeps
 returns-clause-keeps g c =
     let here = task_here _ _ _ _ _ _ _ _ _ c.requires.stands c.replace-was.ensures.value c.in_ok-task.ensures
     c.deref_mut.ensures.value in
-    keeps_taken _ _ _ _ _ _ _ _ _ _ here c.in_ok-turn.ensures.turn c.progress_after.ensures.still
+    keeps_taken here c.in_ok-turn.ensures.turn c.progress_after.ensures.still
     c.progress_after.ensures.below refl refl refl c.progress_after.ensures.cause.later

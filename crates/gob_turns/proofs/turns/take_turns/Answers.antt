@@ -11,45 +11,45 @@ run-requires-clause-underway g c =
 
 pub returns-in_err-results-clause-told : goal.returns-in_err-results-clause-told
 returns-in_err-results-clause-told g c =
-    let over = is_over _ _ _ _ _ _ _ _ _ _ _ c.requires.units
+    let over = is_over c.requires.units
     (ap (λ (x : CoreValue). x.rules) c.in_ok-course.ensures.begun.begins) c.in_ok-run.ensures.went
     c.in_ok-run.ensures.ended in
-    (left_over _ _ _ _ _ _ _ _ _ _ over).told
+    (left_over over).told
 
 pub returns-clause-told : goal.returns-clause-told
 returns-clause-told g c =
-    let over = is_over _ _ _ _ _ _ _ _ _ _ _ c.requires.units
+    let over = is_over c.requires.units
     (ap (λ (x : CoreValue). x.rules) c.in_ok-course.ensures.begun.begins) c.in_ok-run.ensures.went
     c.in_ok-run.ensures.ended in
-    (left_over _ _ _ _ _ _ _ _ _ _ over).told
+    (left_over over).told
 
 pub returns-clause-whole : goal.returns-clause-whole
 returns-clause-whole g c =
-    let over = is_over _ _ _ _ _ _ _ _ _ _ _ c.requires.units
+    let over = is_over c.requires.units
     (ap (λ (x : CoreValue). x.rules) c.in_ok-course.ensures.begun.begins) c.in_ok-run.ensures.went
     c.in_ok-run.ensures.ended in
-    results_over _ _ _ _ _ _ _ _ _ _ _ over c.in_ok-results.ensures
+    results_over over c.in_ok-results.ensures
 
 pub returns-clause-committable : goal.returns-clause-committable
 returns-clause-committable g c =
-    let over = is_over _ _ _ _ _ _ _ _ _ _ _ c.requires.units
+    let over = is_over c.requires.units
     (ap (λ (x : CoreValue). x.rules) c.in_ok-course.ensures.begun.begins) c.in_ok-run.ensures.went
     c.in_ok-run.ensures.ended in
-    committable_over _ _ _ _ _ _ _ _ _ _ _ c.requires.units over c.in_ok-results.ensures
+    committable_over c.requires.units over c.in_ok-results.ensures
 
 pub returns-clause-given : goal.returns-clause-given
 returns-clause-given g c =
-    let over = is_over _ _ _ _ _ _ _ _ _ _ _ c.requires.units
+    let over = is_over c.requires.units
     (ap (λ (x : CoreValue). x.rules) c.in_ok-course.ensures.begun.begins) c.in_ok-run.ensures.went
     c.in_ok-run.ensures.ended in
-    given_over _ _ _ _ _ _ _ _ _ _ _ over c.in_ok-results.ensures
+    given_over over c.in_ok-results.ensures
 
 pub returns-in_err-course-clause-pulled : goal.returns-in_err-course-clause-pulled
 returns-in_err-course-clause-pulled g c = pulled_nothing _
 
 pub returns-clause-given_up : goal.returns-clause-given_up
 returns-clause-given_up g c =
-    let over = is_over _ _ _ _ _ _ _ _ _ _ _ c.requires.units
+    let over = is_over c.requires.units
     (ap (λ (x : CoreValue). x.rules) c.in_ok-course.ensures.begun.begins) c.in_ok-run.ensures.went
     c.in_ok-run.ensures.ended in
-    given_up_over _ _ _ _ _ _ _ _ _ _ _ over c.in_ok-results.ensures
+    given_up_over over c.in_ok-results.ensures

@@ -12,9 +12,9 @@ turns-init g c = record {
 
 pub turns-preserved : goal.turns-preserved
 turns-preserved g c = record {
-  underway = with_rules _ _ _ _ _ _ _ _ _ _ _ c.turns.invariant.underway.by_rules
+  underway = with_rules c.turns.invariant.underway.by_rules
       (c.in_ok-one_turn.ensures.went _
-      (with_rules _ _ _ _ _ _ _ _ _ _ _ (sym c.turns.invariant.underway.by_rules) c.turns.invariant.underway));
+      (with_rules (sym c.turns.invariant.underway.by_rules) c.turns.invariant.underway));
   keeps = keeps_then _ _ _ _ c.turns.invariant.keeps c.in_ok-one_turn.ensures.keeps;
   bench = c.in_ok-one_turn.ensures.bench;
 }
@@ -23,7 +23,7 @@ pub returns-in_err-one_turn-clause-stopped : goal.returns-in_err-one_turn-clause
 returns-in_err-one_turn-clause-stopped g c =
     on_err _ (left_with _ _ _ _ _ _ _ c.turns.invariant.underway.by_rules
     (c.in_err-one_turn.ensures.stopped _
-    (with_rules _ _ _ _ _ _ _ _ _ _ _ (sym c.turns.invariant.underway.by_rules) c.turns.invariant.underway)))
+    (with_rules (sym c.turns.invariant.underway.by_rules) c.turns.invariant.underway)))
 
 pub returns-in_err-one_turn-clause-keeps : goal.returns-in_err-one_turn-clause-keeps
 returns-in_err-one_turn-clause-keeps g c =
