@@ -8,6 +8,7 @@ use gob_plan::{
     Unit, UnitResult, Value,
 };
 use std::alloc::Global;
+use std::process::Abort;
 use std::test::Fail;
 
 pub(crate) fn text(alloc: Global, text: &str) -> Result<Text, NoMemory> {
@@ -47,12 +48,11 @@ pub(crate) fn columns(alloc: Global) -> Result<List<Column>, NoMemory> {
 }
 
 fn test_of(alloc: Global, name: &str, check: Check) -> Result<TestSpec, NoMemory> {
-    let test = TestSpec {
+    Ok(TestSpec {
         negated: true,
         column: text(alloc, name)?,
-        check: check.copy()?,
-    };
-    test.copy()
+        check,
+    })
 }
 
 fn like(alloc: Global, pattern: &str) -> Result<Check, NoMemory> {
@@ -88,47 +88,50 @@ fn branch(alloc: Global) -> Result<BranchSpec, NoMemory> {
         test: test_of(alloc, "m", at_least(7))?,
         mode: Mode::ErrFile,
     };
-    let place = PlaceSpec::Day {
-        column: text(alloc, "m")?,
-    };
-    let branch = BranchSpec {
-        steps: steps(alloc)?,
-        policies: one(alloc, policy.copy()?)?,
+    Ok(BranchSpec {
+        policies: one(alloc, policy)?,
+        place: PlaceSpec::Day {
+            column: text(alloc, "m")?,
+        },
         format: Format::Json,
-        place: place.copy()?,
-    };
-    branch.copy()
+        steps: steps(alloc)?,
+    })
 }
 
 fn fork(alloc: Global) -> Result<ForkSpec, NoMemory> {
-    let fork = ForkSpec {
+    Ok(ForkSpec {
         how: ForkHow::First,
         branches: 1,
         tests: one(alloc, test_of(alloc, "t", like(alloc, "a*")?)?)?,
-    };
-    fork.copy()
+    })
 }
 
+const RULE: TaskPolicy = TaskPolicy {
+    rule: TaskRule::Range {
+        counter: Counter::Written(0),
+        low: 1,
+        high: 9,
+    },
+    fails: true,
+};
+
 fn plan(alloc: Global, columns: Columns) -> Result<Plan, NoMemory> {
-    let rule = TaskPolicy {
-        rule: TaskRule::Range {
-            counter: Counter::Written(0),
-            low: 1,
-            high: 9,
-        },
-        fails: true,
-    };
-    let plan = Plan {
+    Ok(Plan {
         format: Format::Csv,
-        columns: columns.copy()?,
+        columns,
         skip_header: true,
-        steps: steps(alloc)?,
         skip_errors: u64::MAX,
+        task_policies: one(alloc, RULE)?,
         fork: fork(alloc)?,
+        steps: steps(alloc)?,
         branches: one(alloc, branch(alloc)?)?,
-        task_policies: one(alloc, rule)?,
-    };
-    plan.copy()
+    })
+}
+
+// A copy of a whole plan.
+fn copied_plan(alloc: Global) -> Result<Plan, Fail> {
+    let plan = plan(alloc, proper(columns(alloc)?)?)?;
+    Ok(plan.copy()?)
 }
 
 fn step_in_words(alloc: Global, step: &StepSpec) -> Result<Text, NoMemory> {
@@ -178,31 +181,39 @@ fn place_column(place: &PlaceSpec) -> &str {
     }
 }
 
-#[test]
-fn a_plan_is_copied_whole(rt: HostRuntime) -> Result<(), Fail> {
-    let alloc = rt.alloc();
-    let plan = plan(alloc, proper(columns(alloc)?)?)?;
-    assert_eq!(rt; plan.columns.find("t"), Some(2));
-    assert!(rt; plan.format == Format::Csv && plan.skip_header && plan.skip_errors == u64::MAX);
-    same_text(
-        &rt,
-        steps_in_words(alloc, plan.steps.as_slice())?.as_str(),
-        STEPS,
-    );
-    assert!(rt;
-        plan.fork.how == ForkHow::First && plan.fork.branches == 1 && plan.fork.tests.len() == 1
-    );
-    assert!(rt; plan.task_policies.len() == 1);
-    let branch = plan.branches.as_slice().first().ok_or("a branch")?;
-    same_text(
-        &rt,
-        steps_in_words(alloc, branch.steps.as_slice())?.as_str(),
-        STEPS,
-    );
-    same_text(&rt, place_column(&branch.place), "m");
+fn check_steps(rt: &impl Abort, alloc: Global, steps: &[StepSpec]) -> Result<(), Fail> {
+    same_text(rt, steps_in_words(alloc, steps)?.as_str(), STEPS);
+    Ok(())
+}
+
+fn check_branch(rt: &impl Abort, alloc: Global, branch: &BranchSpec) -> Result<(), Fail> {
+    check_steps(rt, alloc, branch.steps.as_slice())?;
+    same_text(rt, place_column(&branch.place), "m");
     let policy = branch.policies.as_slice().first().ok_or("a policy")?;
     assert!(rt; policy.mode == Mode::ErrFile && policy.test.negated);
-    same_text(&rt, policy.test.column.as_str(), "m");
+    same_text(rt, policy.test.column.as_str(), "m");
+    Ok(())
+}
+
+fn check_fork(rt: &impl Abort, fork: &ForkSpec) {
+    assert!(rt; fork.how == ForkHow::First && fork.branches == 1 && fork.tests.len() == 1);
+}
+
+fn check_plan(rt: &impl Abort, alloc: Global, plan: &Plan) -> Result<(), Fail> {
+    assert_eq!(rt; plan.columns.find("t"), Some(2));
+    assert!(rt; plan.format == Format::Csv && plan.skip_header && plan.skip_errors == u64::MAX);
+    check_fork(rt, &plan.fork);
+    assert!(rt; plan.task_policies.len() == 1);
+    check_steps(rt, alloc, plan.steps.as_slice())?;
+    let branch = plan.branches.as_slice().first().ok_or("a branch")?;
+    check_branch(rt, alloc, branch)?;
+    Ok(())
+}
+
+#[test]
+fn a_plan_is_copied_whole(rt: HostRuntime) -> Result<(), Fail> {
+    let plan = copied_plan(rt.alloc())?;
+    check_plan(&rt, rt.alloc(), &plan)?;
     Ok(())
 }
 
@@ -230,21 +241,23 @@ fn every_step(alloc: Global) -> Result<List<StepSpec>, NoMemory> {
     Ok(steps)
 }
 
+fn copied_in_words(alloc: Global, step: &StepSpec) -> Result<Text, NoMemory> {
+    let copy = step.copy()?;
+    step_in_words(alloc, &copy)
+}
+
+fn check_copies(rt: &impl Abort, alloc: Global, steps: &[StepSpec]) -> Result<(), Fail> {
+    for step in steps {
+        let words = step_in_words(alloc, step)?;
+        same_text(rt, copied_in_words(alloc, step)?.as_str(), words.as_str());
+    }
+    Ok(())
+}
+
 #[test]
 fn each_step_is_copied(rt: HostRuntime) -> Result<(), Fail> {
-    for step in every_step(rt.alloc())?.as_slice() {
-        let _copy = step.copy()?;
-    }
-    let kept = steps(rt.alloc())?;
-    for step in kept.as_slice() {
-        let copy = step.copy()?;
-        let words = step_in_words(rt.alloc(), step)?;
-        same_text(
-            &rt,
-            step_in_words(rt.alloc(), &copy)?.as_str(),
-            words.as_str(),
-        );
-    }
+    check_copies(&rt, rt.alloc(), every_step(rt.alloc())?.as_slice())?;
+    check_copies(&rt, rt.alloc(), steps(rt.alloc())?.as_slice())?;
     Ok(())
 }
 
@@ -268,19 +281,23 @@ fn texts_bytes_and_rows_are_copied(rt: HostRuntime) -> Result<(), Fail> {
 }
 
 #[test]
-fn rules_and_limits_are_copied(rt: HostRuntime) -> Result<(), Fail> {
-    let alloc = rt.alloc();
+fn rules_of_turns_are_copied(rt: HostRuntime) -> Result<(), Fail> {
     let rules = TurnRules {
         slots: 2,
         piece: 64,
-        schedule: one(alloc, 1u32)?,
+        schedule: one(rt.alloc(), 1u32)?,
     };
     let rules = rules.copy()?;
     assert!(rt;
         rules.slots == 2 && rules.piece == 64 && rules.schedule.as_slice() == [1u32].as_slice()
     );
+    Ok(())
+}
+
+#[test]
+fn limits_are_copied(rt: HostRuntime) -> Result<(), Fail> {
     let limits = Limits {
-        prefix: text(alloc, "web")?,
+        prefix: text(rt.alloc(), "web")?,
         max_bytes: 5,
         max_new_units: 6,
     };
@@ -296,64 +313,77 @@ fn counts(alloc: Global) -> Result<Counts, NoMemory> {
         errors: 2,
         optional: 3,
     };
-    let counts = Counts {
+    Ok(Counts {
         records: 4,
         bad: 5,
         rows: 6,
         unrouted: 7,
         branches: one(alloc, branch)?,
-    };
-    counts.copy()
+    })
 }
 
 fn staged(alloc: Global) -> Result<StagedFile, NoMemory> {
-    let file = StagedFile {
+    Ok(StagedFile {
         from: text(alloc, "j/stage/0")?,
         to: text(alloc, "j/out/0")?,
-    };
-    file.copy()
+    })
 }
 
-#[test]
-fn results_of_units_are_copied(rt: HostRuntime) -> Result<(), Fail> {
-    let alloc = rt.alloc();
+// A copy of the result of a good unit.
+fn good(alloc: Global) -> Result<UnitResult, NoMemory> {
     let result = UnitResult::Good {
-        counts: counts(alloc)?,
         warnings: one(alloc, 8u32)?,
+        counts: counts(alloc)?,
         staged: one(alloc, staged(alloc)?)?,
     };
+    result.copy()
+}
+
+fn same_counts(rt: &impl Abort, counts: &Counts) {
+    assert!(rt; counts.records == 4 && counts.unrouted == 7 && counts.branches.len() == 1);
+}
+
+fn check_good(rt: &impl Abort, found: &UnitResult) -> Result<(), Fail> {
     let UnitResult::Good {
         counts,
         warnings,
         staged,
-    } = result.copy()?
+    } = found
     else {
         return Err(Fail::from("a good unit"));
     };
-    assert!(rt; counts.records == 4 && counts.unrouted == 7 && counts.branches.len() == 1);
+    same_counts(rt, counts);
     assert!(rt; warnings.as_slice() == [8u32].as_slice());
     let file = staged.as_slice().first().ok_or("a file")?;
-    same_text(&rt, file.from.as_str(), "j/stage/0");
-    same_text(&rt, file.to.as_str(), "j/out/0");
+    same_text(rt, file.from.as_str(), "j/stage/0");
+    same_text(rt, file.to.as_str(), "j/out/0");
+    Ok(())
+}
+
+fn is_bad_record(found: &UnitResult) -> bool {
+    matches!(
+        found,
+        UnitResult::Failed {
+            cause: Cause::BadRecords { at: 9 }
+        }
+    )
+}
+
+#[test]
+fn results_of_units_are_copied(rt: HostRuntime) -> Result<(), Fail> {
+    let good = good(rt.alloc())?;
+    check_good(&rt, &good)?;
     let failed = UnitResult::Failed {
         cause: Cause::BadRecords { at: 9 },
     };
-    assert!(rt;
-        matches!(
-            failed.copy()?,
-            UnitResult::Failed {
-                cause: Cause::BadRecords { at: 9 }
-            }
-        )
-    );
+    assert!(rt; is_bad_record(&failed.copy()?));
     Ok(())
 }
 
 #[test]
-fn units_and_faults_are_copied(rt: HostRuntime) -> Result<(), Fail> {
-    let alloc = rt.alloc();
+fn units_are_copied(rt: HostRuntime) -> Result<(), Fail> {
     let unit = Unit {
-        part: text(alloc, "p")?,
+        part: text(rt.alloc(), "p")?,
         lo: 1,
         hi: 2,
         fresh: true,
@@ -362,11 +392,20 @@ fn units_and_faults_are_copied(rt: HostRuntime) -> Result<(), Fail> {
     let unit = unit.copy()?;
     same_text(&rt, unit.part.as_str(), "p");
     assert!(rt; unit.lo == 1 && unit.hi == 2 && unit.fresh && !unit.listed);
+    Ok(())
+}
+
+fn copied_fault(alloc: Global) -> Result<StepFault, NoMemory> {
     let refusal = Refusal::BadKind {
         column: text(alloc, "n")?,
     };
-    let fault = StepFault::Refused(refusal.copy()?).copy()?;
-    let told = format!(in alloc; "{fault}")?;
+    StepFault::Refused(refusal.copy()?).copy()
+}
+
+#[test]
+fn faults_are_copied(rt: HostRuntime) -> Result<(), Fail> {
+    let fault = copied_fault(rt.alloc())?;
+    let told = format!(in rt.alloc(); "{fault}")?;
     same_text(
         &rt,
         told.as_str(),

@@ -10,6 +10,7 @@ use gob_plan::{
     Check, Column, Columns, How, Kind, List, NoMemory, Row, TestSpec, Text, Value, holds,
 };
 use std::alloc::Global;
+use std::process::Abort;
 use std::test::Fail;
 
 fn one_column(alloc: Global, kind: Kind) -> Result<Columns, NoMemory>
@@ -186,20 +187,27 @@ fn lengths_are_in_bytes(rt: HostRuntime) -> Result<(), Fail> {
     Ok(())
 }
 
-#[test]
-fn columns_have_different_names(rt: HostRuntime) -> Result<(), Fail> {
-    let list = columns(rt.alloc())?;
-    let proper = Columns::new(list).ok().ok_or("columns")?;
-    same_place(&rt, proper.find("t"), Some(2));
-    same_place(&rt, proper.find("u"), None);
-    assert_eq!(rt; proper.len(), 3);
-    assert!(rt; proper.get(1).is_some_and(|c| c.kind == Kind::Int) && proper.get(3).is_none());
-    let none: List<Column> = List::new(rt.alloc());
-    same_truth(&rt, Columns::new(none).is_err(), true);
-    let mut twice = columns(rt.alloc())?;
-    for column in columns(rt.alloc())?.as_slice() {
+fn check_columns(rt: &impl Abort, columns: &Columns) {
+    same_place(rt, columns.find("t"), Some(2));
+    same_place(rt, columns.find("u"), None);
+    assert_eq!(rt; columns.len(), 3);
+    assert!(rt; columns.get(1).is_some_and(|c| c.kind == Kind::Int) && columns.get(3).is_none());
+}
+
+// The columns, and each of them again.
+fn columns_twice(alloc: Global) -> Result<List<Column>, NoMemory> {
+    let mut twice = columns(alloc)?;
+    for column in columns(alloc)?.as_slice() {
         twice.push(column.copy()?)?;
     }
-    same_truth(&rt, Columns::new(twice).is_err(), true);
+    Ok(twice)
+}
+
+#[test]
+fn columns_have_different_names(rt: HostRuntime) -> Result<(), Fail> {
+    let proper = Columns::new(columns(rt.alloc())?).ok().ok_or("columns")?;
+    check_columns(&rt, &proper);
+    same_truth(&rt, Columns::new(List::new(rt.alloc())).is_err(), true);
+    same_truth(&rt, Columns::new(columns_twice(rt.alloc())?).is_err(), true);
     Ok(())
 }
