@@ -108,19 +108,32 @@ fn failed_looks(rt: &impl Abort, alloc: Global, case: &Case) -> Result<u64, Fail
     Err(Fail::from("no end of looks"))
 }
 
+fn check_pulled(
+    rt: &impl Abort,
+    alloc: Global,
+    called: &mut Called,
+    case: &Case,
+) -> Result<(), Fail> {
+    same_number(rt, called.source.fault_count(), 1);
+    check_text(rt, alloc, &called.out, case.text)?;
+    check_files(rt, alloc, &mut called.volume, case.left)
+}
+
+fn check_pull(rt: &impl Abort, alloc: Global, case: &Case, call: u64) -> Result<(), Fail> {
+    let numbers = [call];
+    let fails = Fails {
+        pulls: &numbers,
+        writes: &[1],
+        ..NO_FAILS
+    };
+    let mut called = make_call(alloc, case, &fails)?;
+    check_pulled(rt, alloc, &mut called, case)
+}
+
 /// A pull that fails once is made again, and all else is as where none fails.
 fn check_pull_again(rt: &impl Abort, alloc: Global, case: &Case) -> Result<(), Fail> {
     for call in 0..3 {
-        let numbers = [call];
-        let fails = Fails {
-            pulls: &numbers,
-            writes: &[1],
-            ..NO_FAILS
-        };
-        let mut called = make_call(alloc, case, &fails)?;
-        same_number(rt, called.source.fault_count(), 1);
-        check_text(rt, alloc, &called.out, case.text)?;
-        check_files(rt, alloc, &mut called.volume, case.left)?;
+        check_pull(rt, alloc, case, call)?;
     }
     Ok(())
 }
@@ -201,6 +214,15 @@ fn left_of(
     if called.volume.fault_count() == 0 {
         return Ok(None);
     }
+    left_behind(rt, alloc, recovered, &mut called)
+}
+
+fn left_behind(
+    rt: &impl Abort,
+    alloc: Global,
+    recovered: &Recovered,
+    called: &mut Called,
+) -> Result<Option<bool>, Fail> {
     check_text(
         rt,
         alloc,

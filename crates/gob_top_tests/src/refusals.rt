@@ -1,8 +1,10 @@
 //! Refusals in their order, and what each leaves. Where one is due, what would be refused later is wrong as well.
 
-use crate::calls::{Case, Fails, NO_FAILS, check};
+use crate::calls::{Case, Fails, NO_FAILS, Part, check};
 use crate::files::File;
 use crate::plain::{BEFORE_POLICIES, BEHIND_POLICIES, FIRST_RUN, LINES, NO_POLICIES};
+use std::alloc::Global;
+use std::process::Abort;
 use std::test::Fail;
 
 const JOB: File = ("jobs/j1.pull", &[LINES]);
@@ -77,43 +79,65 @@ const UNASKED: Fails<'static> = Fails {
     ..NO_FAILS
 };
 
+/// A call that doesn't ask for the source: what it finds, and what it is to answer and to leave.
+struct Call {
+    words: &'static [&'static str],
+    files: &'static [File],
+    status: u8,
+    text: &'static [&'static str],
+    left: &'static [File],
+}
+
+fn check_call(rt: &impl Abort, alloc: Global, call: &Call) -> Result<(), Fail> {
+    let case = Case {
+        words: call.words,
+        parts: &[("a.log", "x\ny\n")],
+        files: call.files,
+        fails: UNASKED,
+        status: call.status,
+        text: call.text,
+        pulls: &[],
+        left: call.left,
+    };
+    check(rt, alloc, &case)
+}
+
+const RUN: &[&str] = &["run", "j1"];
+
 /// A job file that is refused twice over.
 const BAD_JOB: File = ("jobs/j1.pull", &["writer.format=lines\nx=\\u00zz\n"]);
 
 const UNSOUND: &[File] = &[DAMAGED_SEQUENCE, LEFT_OVER, DAMAGED_STATE, BAD_JOB];
 
-const USAGE: Case = Case {
+const USAGE: Call = Call {
     words: &["run", "j1", "j1"],
-    parts: &[("a.log", "x\ny\n")],
     files: UNSOUND,
-    fails: UNASKED,
     status: 2,
     text: &[
         "usage: run JOB, recover JOB, report JOB, check JOB, drill N, drill N stops
 status 2
 ",
     ],
-    pulls: &[],
     left: UNSOUND,
 };
 
 const WITHOUT_JOB: &[File] = &[DAMAGED_SEQUENCE, LEFT_OVER, DAMAGED_STATE];
 
-const NO_JOB: Case = Case {
-    words: &["run", "j1"],
+const NO_JOB: Call = Call {
+    words: RUN,
     files: WITHOUT_JOB,
     status: 3,
     text: &["refused no-job\nstatus 3\n"],
     left: WITHOUT_JOB,
-    ..USAGE
 };
 
 /// The text is read before its keys.
-const BAD_ESCAPE: Case = Case {
+const BAD_ESCAPE: Call = Call {
+    words: RUN,
     files: UNSOUND,
+    status: 3,
     text: &["refused bad-escape 2\nstatus 3\n"],
     left: UNSOUND,
-    ..NO_JOB
 };
 
 const BAD_KEY_JOB: File = (
@@ -123,44 +147,53 @@ const BAD_KEY_JOB: File = (
 
 const WITH_BAD_KEY: &[File] = &[DAMAGED_SEQUENCE, LEFT_OVER, DAMAGED_STATE, BAD_KEY_JOB];
 
+const BAD_KEY_TOLD: &[&str] = &["refused bad-value source.class\nstatus 3\n"];
+
 /// The class is read before the format, which is missing.
-const BAD_KEY: Case = Case {
+const BAD_KEY: Call = Call {
+    words: RUN,
     files: WITH_BAD_KEY,
-    text: &["refused bad-value source.class\nstatus 3\n"],
+    status: 3,
+    text: BAD_KEY_TOLD,
     left: WITH_BAD_KEY,
-    ..NO_JOB
 };
 
 const SEQUENCE_IS_DAMAGED: &[File] = &[DAMAGED_SEQUENCE, LEFT_OVER, DAMAGED_STATE, JOB];
 
-const BAD_SEQUENCE: Case = Case {
+const BAD_SEQUENCE_TOLD: &[&str] = &["refused damaged j1/seq\nstatus 4\n"];
+
+const BAD_SEQUENCE: Call = Call {
+    words: RUN,
     files: SEQUENCE_IS_DAMAGED,
     status: 4,
-    text: &["refused damaged j1/seq\nstatus 4\n"],
+    text: BAD_SEQUENCE_TOLD,
     left: SEQUENCE_IS_DAMAGED,
-    ..NO_JOB
 };
 
 const SOURCE_IS_LOST: &[File] = &[SEQUENCE, LEFT_OVER, DAMAGED_STATE, JOB];
 
 /// Neither name of the move is there.
-const LOST: Case = Case {
+const LOST: Call = Call {
+    words: RUN,
     files: SOURCE_IS_LOST,
+    status: 4,
     text: &[
         "refused damaged j1/stage/0-0/out/0/a.log@00000000000000000000-00000000000000000004.txt
 status 4
 ",
     ],
     left: SOURCE_IS_LOST,
-    ..BAD_SEQUENCE
 };
 
+const BAD_STATE_TOLD: &[&str] = &["refused damaged j1/state\nstatus 4\n"];
+
 /// The sequence is done first.
-const BAD_STATE: Case = Case {
+const BAD_STATE: Call = Call {
+    words: RUN,
     files: &[SEQUENCE, STAGED, LEFT_OVER, DAMAGED_STATE, JOB],
-    text: &["refused damaged j1/state\nstatus 4\n"],
+    status: 4,
+    text: BAD_STATE_TOLD,
     left: &[PUBLISHED, DAMAGED_STATE, JOB],
-    ..BAD_SEQUENCE
 };
 
 const BASE: File = (
@@ -189,86 +222,118 @@ enx
     ],
 );
 
-const BAD_CHANGE: Case = Case {
+const BAD_CHANGE: Call = Call {
+    words: RUN,
     files: &[DAMAGED_CHANGE, LEFT_OVER, BASE, JOB],
+    status: 4,
     text: &["refused damaged j1/delta/00000000000000000002\nstatus 4\n"],
     left: &[DAMAGED_CHANGE, BASE, JOB],
-    ..BAD_SEQUENCE
-};
-
-const STOPPED: &[File] = &[FULL_SEQUENCE, STAGED, LEFT_OVER, STAGED_STATE, JOB];
-
-const SETTLED: &[File] = &[PUBLISHED, STATE, JOB];
-
-/// The state that the sequence stores has taken four bytes.
-const SHRUNK: Case = Case {
-    parts: &[("a.log", "x\n")],
-    files: STOPPED,
-    fails: NO_FAILS,
-    text: &["refused shrunk a.log 4 2\nstatus 4\n"],
-    left: SETTLED,
-    ..BAD_SEQUENCE
-};
-
-const NO_LIST: Case = Case {
-    parts: &[("a.log", "x\ny\nz\n")],
-    fails: UNASKED,
-    status: 5,
-    text: &["refused source-fault\nstatus 5\n"],
-    ..SHRUNK
-};
-
-const NO_LOOK: Case = Case {
-    fails: Fails {
-        looks: &[0],
-        ..NO_FAILS
-    },
-    ..NO_LIST
-};
-
-/// The job's file is the first that is asked for.
-const NO_READ: Case = Case {
-    fails: Fails {
-        volume: &[0],
-        ..NO_FAILS
-    },
-    status: 6,
-    text: &["refused volume-fault\nstatus 6\n"],
-    left: STOPPED,
-    ..NO_LIST
 };
 
 /// The words, and the job's file.
-const ASKED: [Case; 4] = [USAGE, NO_JOB, BAD_ESCAPE, BAD_KEY];
+const ASKED: [Call; 4] = [USAGE, NO_JOB, BAD_ESCAPE, BAD_KEY];
 
 /// What the job's folder holds.
-const KEPT: [Case; 4] = [BAD_SEQUENCE, LOST, BAD_STATE, BAD_CHANGE];
-
-/// What the source holds, and devices that fail.
-const FOUND: [Case; 4] = [SHRUNK, NO_LIST, NO_LOOK, NO_READ];
+const KEPT: [Call; 4] = [BAD_SEQUENCE, LOST, BAD_STATE, BAD_CHANGE];
 
 // Of several causes the first is told, and each leaves the files as they were or as settling leaves them.
 
 #[test]
 fn a_run_is_refused_for_its_words_or_its_job(rt: HostRuntime) -> Result<(), Fail> {
-    for case in &ASKED {
-        check(&rt, rt.alloc(), case)?;
+    for call in &ASKED {
+        check_call(&rt, rt.alloc(), call)?;
     }
     Ok(())
 }
 
 #[test]
 fn a_run_is_refused_for_files_that_cannot_be_read(rt: HostRuntime) -> Result<(), Fail> {
-    for case in &KEPT {
-        check(&rt, rt.alloc(), case)?;
+    for call in &KEPT {
+        check_call(&rt, rt.alloc(), call)?;
     }
     Ok(())
 }
 
+// What the source holds, and devices that fail
+
+const STOPPED: &[File] = &[FULL_SEQUENCE, STAGED, LEFT_OVER, STAGED_STATE, JOB];
+
+const SETTLED: &[File] = &[PUBLISHED, STATE, JOB];
+
+const GROWN: &[Part] = &[("a.log", "x\ny\nz\n")];
+
+/// A run that settles what a stopped one left before it asks for the source.
+fn check_settled(
+    rt: &impl Abort,
+    alloc: Global,
+    parts: &'static [Part],
+    fails: Fails<'static>,
+    status: u8,
+    text: &'static [&'static str],
+) -> Result<(), Fail> {
+    let case = Case {
+        words: RUN,
+        parts,
+        files: STOPPED,
+        fails,
+        status,
+        text,
+        pulls: &[],
+        left: SETTLED,
+    };
+    check(rt, alloc, &case)
+}
+
+/// The state that the sequence stores has taken four bytes.
 #[test]
-fn a_run_is_refused_for_its_source_or_its_devices(rt: HostRuntime) -> Result<(), Fail> {
-    for case in &FOUND {
-        check(&rt, rt.alloc(), case)?;
+fn a_run_is_refused_for_a_source_that_shrank(rt: HostRuntime) -> Result<(), Fail> {
+    let text = &["refused shrunk a.log 4 2\nstatus 4\n"];
+    check_settled(&rt, rt.alloc(), &[("a.log", "x\n")], NO_FAILS, 4, text)
+}
+
+const NO_LOOK: Fails<'static> = Fails {
+    looks: &[0],
+    ..NO_FAILS
+};
+
+/// The source tells neither its partitions nor what one holds.
+#[test]
+fn a_run_is_refused_for_a_source_that_fails(rt: HostRuntime) -> Result<(), Fail> {
+    for fails in [UNASKED, NO_LOOK] {
+        let text = &["refused source-fault\nstatus 5\n"];
+        check_settled(&rt, rt.alloc(), GROWN, fails, 5, text)?;
+    }
+    Ok(())
+}
+
+const NO_READ: Fails<'static> = Fails {
+    volume: &[0],
+    ..NO_FAILS
+};
+
+/// The first call of the volume fails.
+fn check_no_read(
+    rt: &impl Abort,
+    alloc: Global,
+    words: &'static [&'static str],
+) -> Result<(), Fail> {
+    let case = Case {
+        words,
+        parts: GROWN,
+        files: STOPPED,
+        fails: NO_READ,
+        status: 6,
+        text: &["refused volume-fault\nstatus 6\n"],
+        pulls: &[],
+        left: STOPPED,
+    };
+    check(rt, alloc, &case)
+}
+
+#[test]
+fn each_command_is_refused_for_a_volume_that_fails(rt: HostRuntime) -> Result<(), Fail> {
+    for words in [RUN, RECOVER, REPORT, CHECK] {
+        check_no_read(&rt, rt.alloc(), words)?;
     }
     Ok(())
 }
@@ -281,39 +346,43 @@ const REPORT: &[&str] = &["report", "j1"];
 
 const CHECK: &[&str] = &["check", "j1"];
 
-const RECOVER_BAD_SEQUENCE: Case = Case {
+const RECOVER_BAD_SEQUENCE: Call = Call {
     words: RECOVER,
     files: UNSOUND,
+    status: 4,
+    text: BAD_SEQUENCE_TOLD,
     left: UNSOUND,
-    ..BAD_SEQUENCE
 };
 
 /// A recovery reads no state.
-const RECOVER_BAD_STATE: Case = Case {
+const RECOVER_BAD_STATE: Call = Call {
     words: RECOVER,
     files: &[LEFT_OVER, DAMAGED_STATE, BAD_JOB],
     status: 0,
     text: &["recovered j1 sequence none\nstatus 0\n"],
     left: &[DAMAGED_STATE, BAD_JOB],
-    ..BAD_SEQUENCE
 };
 
-const RECOVER_STOPPED: Case = Case {
+const RECOVER_STOPPED: Call = Call {
+    words: RECOVER,
     files: STOPPED,
+    status: 0,
     text: &["recovered j1 sequence open\nstatus 0\n"],
     left: SETTLED,
-    ..RECOVER_BAD_STATE
 };
 
-const REPORT_BAD_STATE: Case = Case {
+const REPORT_BAD_STATE: Call = Call {
     words: REPORT,
+    files: &[LEFT_OVER, DAMAGED_STATE, BAD_JOB],
     status: 4,
-    text: &["refused damaged j1/state\nstatus 4\n"],
-    ..RECOVER_BAD_STATE
+    text: BAD_STATE_TOLD,
+    left: &[DAMAGED_STATE, BAD_JOB],
 };
 
-const REPORT_STOPPED: Case = Case {
+const REPORT_STOPPED: Call = Call {
     words: REPORT,
+    files: STOPPED,
+    status: 0,
     text: &[
         "job j1
 mark a.log 4 4
@@ -324,12 +393,13 @@ runs 1
 status 0
 ",
     ],
-    ..RECOVER_STOPPED
+    left: SETTLED,
 };
 
-const REPORT_NOTHING: Case = Case {
+const REPORT_NOTHING: Call = Call {
     words: REPORT,
     files: &[LEFT_OVER],
+    status: 0,
     text: &[
         "job j1
 total records 0 bad 0 rows 0 unrouted 0
@@ -338,73 +408,51 @@ status 0
 ",
     ],
     left: &[],
-    ..RECOVER_STOPPED
 };
 
 /// A check settles nothing.
-const CHECK_UNSETTLED: Case = Case {
+const CHECK_UNSETTLED: Call = Call {
     words: CHECK,
+    files: SEQUENCE_IS_DAMAGED,
     status: 0,
     text: &["job j1 ok\nbranch 0 lines line:text\nstatus 0\n"],
-    ..BAD_SEQUENCE
+    left: SEQUENCE_IS_DAMAGED,
 };
 
-const CHECK_BAD_KEY: Case = Case {
+const CHECK_BAD_KEY: Call = Call {
     words: CHECK,
-    ..BAD_KEY
+    files: WITH_BAD_KEY,
+    status: 3,
+    text: BAD_KEY_TOLD,
+    left: WITH_BAD_KEY,
 };
 
-const RECOVER_NO_READ: Case = Case {
-    words: RECOVER,
-    ..NO_READ
-};
+const RECOVERIES: [Call; 3] = [RECOVER_BAD_SEQUENCE, RECOVER_BAD_STATE, RECOVER_STOPPED];
 
-const REPORT_NO_READ: Case = Case {
-    words: REPORT,
-    ..NO_READ
-};
+const REPORTS: [Call; 3] = [REPORT_BAD_STATE, REPORT_STOPPED, REPORT_NOTHING];
 
-const CHECK_NO_READ: Case = Case {
-    words: CHECK,
-    ..NO_READ
-};
-
-const RECOVERIES: [Case; 4] = [
-    RECOVER_BAD_SEQUENCE,
-    RECOVER_BAD_STATE,
-    RECOVER_STOPPED,
-    RECOVER_NO_READ,
-];
-
-const REPORTS: [Case; 4] = [
-    REPORT_BAD_STATE,
-    REPORT_STOPPED,
-    REPORT_NOTHING,
-    REPORT_NO_READ,
-];
-
-const CHECKS: [Case; 3] = [CHECK_UNSETTLED, CHECK_BAD_KEY, CHECK_NO_READ];
+const CHECKS: [Call; 2] = [CHECK_UNSETTLED, CHECK_BAD_KEY];
 
 #[test]
 fn a_recovery_settles_or_changes_nothing(rt: HostRuntime) -> Result<(), Fail> {
-    for case in &RECOVERIES {
-        check(&rt, rt.alloc(), case)?;
+    for call in &RECOVERIES {
+        check_call(&rt, rt.alloc(), call)?;
     }
     Ok(())
 }
 
 #[test]
 fn a_report_settles_or_changes_nothing(rt: HostRuntime) -> Result<(), Fail> {
-    for case in &REPORTS {
-        check(&rt, rt.alloc(), case)?;
+    for call in &REPORTS {
+        check_call(&rt, rt.alloc(), call)?;
     }
     Ok(())
 }
 
 #[test]
 fn a_check_changes_nothing(rt: HostRuntime) -> Result<(), Fail> {
-    for case in &CHECKS {
-        check(&rt, rt.alloc(), case)?;
+    for call in &CHECKS {
+        check_call(&rt, rt.alloc(), call)?;
     }
     Ok(())
 }

@@ -58,11 +58,19 @@ end
     ],
 );
 
+const RUN_DATASETS: &[&str] = &["run", "ds"];
+
+const TWO_LINES: &[Part] = &[("x/a", "1\n"), ("y/b", "2\n")];
+
+const NO_DATASET: &[File] = &[JOB];
+
+const BOTH_DATASETS: &[File] = &[CHANGE, X, Y, STATE, JOB];
+
 /// Two datasets of one line each.
 const DATASETS: Case = Case {
-    words: &["run", "ds"],
-    parts: &[("x/a", "1\n"), ("y/b", "2\n")],
-    files: &[JOB],
+    words: RUN_DATASETS,
+    parts: TWO_LINES,
+    files: NO_DATASET,
     fails: NO_FAILS,
     status: 0,
     text: &[
@@ -80,7 +88,7 @@ status 0
 ",
     ],
     pulls: &[("x/a", 0, 2), ("y/b", 0, 2)],
-    left: &[CHANGE, X, Y, STATE, JOB],
+    left: BOTH_DATASETS,
 };
 
 const ONE_DATASET: &[File] = &[X, STATE, JOB];
@@ -104,27 +112,40 @@ fn stopped(alloc: Global, case: &Case, calls: u64, tail: &[u8]) -> Result<(u64, 
 
 /// How many commits were made, where each stands whole or not at all.
 fn commits_in(alloc: Global, volume: &mut MemVolume) -> Result<u64, Fail> {
-    if are_all(alloc, volume, DATASETS.files)? {
+    if are_all(alloc, volume, NO_DATASET)? {
         return Ok(0);
     }
     if are_all(alloc, volume, ONE_DATASET)? {
         return Ok(1);
     }
-    if are_all(alloc, volume, DATASETS.left)? {
+    if are_all(alloc, volume, BOTH_DATASETS)? {
         return Ok(2);
     }
     Err(Fail::from("a part of a commit stands"))
 }
 
-/// How many commits stand once what the stopped run left was recovered.
-fn recovered_commits(alloc: Global, calls: u64, tail: &[u8]) -> Result<u64, Fail> {
-    let (_, mut volume) = stopped(alloc, &DATASETS, calls, tail)?;
+fn stopped_datasets(alloc: Global, calls: u64, tail: &[u8]) -> Result<(u64, MemVolume), Fail> {
+    stopped(alloc, &DATASETS, calls, tail)
+}
+
+fn recover_datasets(alloc: Global, volume: &mut MemVolume) -> Result<(), Fail> {
     let mut source = source_of(alloc, &[], &NO_FAILS)?;
-    let (status, _) = call_again(alloc, &["recover", "ds"], &mut source, &mut volume)?;
+    let (status, _) = call_again(alloc, &["recover", "ds"], &mut source, volume)?;
     if status != 0 {
         return Err(Fail::from("it isn't recovered"));
     }
-    commits_in(alloc, &mut volume)
+    Ok(())
+}
+
+fn commits_behind_recovery(alloc: Global, volume: &mut MemVolume) -> Result<u64, Fail> {
+    recover_datasets(alloc, volume)?;
+    commits_in(alloc, volume)
+}
+
+/// How many commits stand once what the stopped run left was recovered.
+fn recovered_commits(alloc: Global, calls: u64, tail: &[u8]) -> Result<u64, Fail> {
+    let (_, mut volume) = stopped_datasets(alloc, calls, tail)?;
+    commits_behind_recovery(alloc, &mut volume)
 }
 
 /// The later a run stops the more of its commits stand: first none and last all.
@@ -169,16 +190,30 @@ fn is_told(alloc: Global, found: &[u8], files: &[File]) -> Result<bool, Fail> {
     Ok(found == wanted.as_slice())
 }
 
-/// The run behind a stopped one makes what is left to do, and nothing twice.
-fn check_stop(rt: &impl Abort, alloc: Global, calls: u64, tail: &[u8]) -> Result<(), Fail> {
-    let (status, mut volume) = stopped(alloc, &DATASETS, calls, tail)?;
-    same_number(rt, status, if calls <= CHANGES { 6 } else { 0 });
-    check_untorn(alloc, &mut volume)?;
-    let mut source = source_of(alloc, DATASETS.parts, &NO_FAILS)?;
-    let (later, out) = call_again(alloc, DATASETS.words, &mut source, &mut volume)?;
+fn check_later(
+    rt: &impl Abort,
+    alloc: Global,
+    source: &mut MemSource,
+    volume: &mut MemVolume,
+) -> Result<(), Fail> {
+    let (later, out) = call_again(alloc, RUN_DATASETS, source, volume)?;
     same_number(rt, later, 0);
     same_truth(rt, out.bytes().ends_with(b"\nruns 2\nstatus 0\n"), true);
-    check_files(rt, alloc, &mut volume, DATASETS.left)
+    Ok(())
+}
+
+fn check_behind(rt: &impl Abort, alloc: Global, volume: &mut MemVolume) -> Result<(), Fail> {
+    check_untorn(alloc, volume)?;
+    let mut source = source_of(alloc, TWO_LINES, &NO_FAILS)?;
+    check_later(rt, alloc, &mut source, volume)?;
+    check_files(rt, alloc, volume, BOTH_DATASETS)
+}
+
+/// The run behind a stopped one makes what is left to do, and nothing twice.
+fn check_stop(rt: &impl Abort, alloc: Global, calls: u64, tail: &[u8]) -> Result<(), Fail> {
+    let (status, mut volume) = stopped_datasets(alloc, calls, tail)?;
+    same_number(rt, status, if calls <= CHANGES { 6 } else { 0 });
+    check_behind(rt, alloc, &mut volume)
 }
 
 fn check_stops(rt: &impl Abort, alloc: Global, tail: &[u8]) -> Result<(), Fail> {

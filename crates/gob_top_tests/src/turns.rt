@@ -15,9 +15,11 @@ const TWO_SLOTS: File = (
     ],
 );
 
+const RUN: &[&str] = &["run", "j1"];
+
 /// Two units at a time, the second one first, in pieces that end in the middle of a line.
 const IN_TURNS: Case = Case {
-    words: &["run", "j1"],
+    words: RUN,
     parts: &[("a", "1\n2\n3\n4\n"), ("b", "5\n6\n7\n8\n")],
     files: &[TWO_SLOTS],
     fails: NO_FAILS,
