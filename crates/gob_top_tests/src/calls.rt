@@ -178,6 +178,17 @@ fn check_devices(
     check_files(rt, alloc, &mut called.volume, case.left)
 }
 
+fn check_answer(
+    rt: &impl Abort,
+    alloc: Global,
+    called: &mut Called,
+    case: &Case,
+) -> Result<(), Fail> {
+    check_text(rt, alloc, &called.out, case.text)?;
+    same_number(rt, u64::from(called.status), u64::from(case.status));
+    check_devices(rt, alloc, called, case)
+}
+
 // A second write would fail, and take the status's place.
 fn check_told(rt: &impl Abort, alloc: Global, case: &Case) -> Result<(), Fail> {
     let fails = Fails {
@@ -185,9 +196,7 @@ fn check_told(rt: &impl Abort, alloc: Global, case: &Case) -> Result<(), Fail> {
         ..case.fails
     };
     let mut called = make_call(alloc, case, &fails)?;
-    check_text(rt, alloc, &called.out, case.text)?;
-    same_number(rt, u64::from(called.status), u64::from(case.status));
-    check_devices(rt, alloc, &mut called, case)
+    check_answer(rt, alloc, &mut called, case)
 }
 
 // The only write fails, and all else is as it was.

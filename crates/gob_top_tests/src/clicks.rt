@@ -286,8 +286,13 @@ pub(crate) const CLICKS: Case = Case {
 
 /// Each partition has a commit of its own.
 pub(crate) const CLICKS_BY_DATASET: Case = Case {
+    words: &["run", "clicks"],
+    parts: PARTS,
     files: &[JOB_BY_DATASET],
+    fails: NO_FAILS,
+    status: 0,
     text: &[TOLD, "runs 3\nstatus 0\n"],
+    pulls: PULLS,
     left: &[
         CHANGE_2,
         CHANGE_3,
@@ -300,7 +305,6 @@ pub(crate) const CLICKS_BY_DATASET: Case = Case {
         STATE_1,
         JOB_BY_DATASET,
     ],
-    ..CLICKS
 };
 
 /// What stands of it behind the second commit.

@@ -14,6 +14,7 @@ use std::test::Fail;
 
 /// A run, and how what it left is recovered: the words, the name of its sequence, and what is told where that was open
 /// and where there was none.
+#[derive(Clone, Copy)]
 struct Recovered {
     run: Case,
     words: &'static [&'static str],
@@ -22,22 +23,24 @@ struct Recovered {
     none: &'static str,
 }
 
-const RUNS: [Recovered; 2] = [
-    Recovered {
-        run: TWO,
-        words: &["recover", "two"],
-        sequence: "two/seq",
-        open: "recovered two sequence open\nstatus 0\n",
-        none: "recovered two sequence none\nstatus 0\n",
-    },
-    Recovered {
-        run: CLICKS,
-        words: &["recover", "clicks"],
-        sequence: "clicks/seq",
-        open: "recovered clicks sequence open\nstatus 0\n",
-        none: "recovered clicks sequence none\nstatus 0\n",
-    },
-];
+fn runs() -> [Recovered; 2] {
+    [
+        Recovered {
+            run: TWO,
+            words: &["recover", "two"],
+            sequence: "two/seq",
+            open: "recovered two sequence open\nstatus 0\n",
+            none: "recovered two sequence none\nstatus 0\n",
+        },
+        Recovered {
+            run: CLICKS,
+            words: &["recover", "clicks"],
+            sequence: "clicks/seq",
+            open: "recovered clicks sequence open\nstatus 0\n",
+            none: "recovered clicks sequence none\nstatus 0\n",
+        },
+    ]
+}
 
 /// More calls of each kind than a run makes.
 const MOST: u64 = 1000;
@@ -67,8 +70,7 @@ fn check_planning(
     if called.source.fault_count() == 0 {
         return Ok(false);
     }
-    check_planned(rt, alloc, &mut called, case)?;
-    Ok(true)
+    check_planned(rt, alloc, &mut called, case)
 }
 
 fn check_planned(
@@ -76,7 +78,7 @@ fn check_planned(
     alloc: Global,
     called: &mut Called,
     case: &Case,
-) -> Result<(), Fail> {
+) -> Result<bool, Fail> {
     check_text(
         rt,
         alloc,
@@ -85,7 +87,8 @@ fn check_planned(
     )?;
     same_number(rt, u64::from(called.status), 5);
     same_truth(rt, called.source.pull_list().is_empty(), true);
-    check_files(rt, alloc, &mut called.volume, case.files)
+    check_files(rt, alloc, &mut called.volume, case.files)?;
+    Ok(true)
 }
 
 /// How many listings a run makes; each fails in turn.
@@ -149,7 +152,8 @@ fn check_source(rt: &impl Abort, alloc: Global, case: &Case) -> Result<(), Fail>
 /// Each listing, look and pull of a run fails in turn, and the run that nothing fails is the one that is wanted.
 #[test]
 fn each_call_of_the_source_fails(rt: HostRuntime) -> Result<(), Fail> {
-    for recovered in &RUNS {
+    let runs = runs();
+    for recovered in &runs {
         check_source(&rt, rt.alloc(), &recovered.run)?;
     }
     Ok(())
@@ -265,7 +269,8 @@ fn check_volume(rt: &impl Abort, alloc: Global, recovered: &Recovered) -> Result
 /// Each call of the volume fails in turn: the run ends by it, and what is recovered is all of the run or nothing.
 #[test]
 fn each_call_of_the_volume_fails(rt: HostRuntime) -> Result<(), Fail> {
-    for recovered in &RUNS {
+    let runs = runs();
+    for recovered in &runs {
         check_volume(&rt, rt.alloc(), recovered)?;
     }
     Ok(())

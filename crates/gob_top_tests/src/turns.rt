@@ -1,10 +1,12 @@
 //! The turns of units, as the source is asked for their bytes.
 
-use crate::calls::{Case, Fails, NO_FAILS, check};
+use crate::calls::{Case, Fails, NO_FAILS, Pull, check};
 use crate::files::File;
 use crate::plain::{
     BEFORE_POLICIES, BEHIND_POLICIES, FIRST_RUN, LINES, NO_K, NO_K_POLICIES, NO_POLICIES,
 };
+use std::alloc::Global;
+use std::process::Abort;
 use std::test::Fail;
 
 const TWO_SLOTS: File = (
@@ -17,15 +19,8 @@ const TWO_SLOTS: File = (
 
 const RUN: &[&str] = &["run", "j1"];
 
-/// Two units at a time, the second one first, in pieces that end in the middle of a line.
-const IN_TURNS: Case = Case {
-    words: RUN,
-    parts: &[("a", "1\n2\n3\n4\n"), ("b", "5\n6\n7\n8\n")],
-    files: &[TWO_SLOTS],
-    fails: NO_FAILS,
-    status: 0,
-    text: &[
-        "job j1 policy full
+const TURNS_TOLD: &[&str] = &[
+    "job j1 policy full
 unit a 0 8 committed records 4 bad 0 rows 4 unrouted 0
 branch 0 written 4 errors 0 optional 0
 unit b 0 8 committed records 4 bad 0 rows 4 unrouted 0
@@ -37,32 +32,45 @@ total branch 0 written 8 errors 0 optional 0
 runs 1
 status 0
 ",
-    ],
-    pulls: &[
-        ("b", 0, 3),
-        ("a", 0, 3),
-        ("b", 3, 3),
-        ("a", 3, 3),
-        ("b", 6, 2),
-        ("a", 6, 2),
-    ],
-    left: &[
-        (
-            "j1/out/0/a@00000000000000000000-00000000000000000008.txt",
-            &["1\n2\n3\n4\n"],
-        ),
-        (
-            "j1/out/0/b@00000000000000000000-00000000000000000008.txt",
-            &["5\n6\n7\n8\n"],
-        ),
-        (
-            "j1/state",
-            &[
-                FIRST_RUN,
-                BEFORE_POLICIES,
-                NO_POLICIES,
-                BEHIND_POLICIES,
-                "totals 8 0 8 0
+];
+
+const IN_TURNS: &[Pull] = &[
+    ("b", 0, 3),
+    ("a", 0, 3),
+    ("b", 3, 3),
+    ("a", 3, 3),
+    ("b", 6, 2),
+    ("a", 6, 2),
+];
+
+/// The second pull of `b` fails. In its next turn `b` begins anew; the turns go on as before.
+const ONE_FAILS: &[Pull] = &[
+    ("b", 0, 3),
+    ("a", 0, 3),
+    ("a", 3, 3),
+    ("b", 0, 3),
+    ("a", 6, 2),
+    ("b", 3, 3),
+    ("b", 6, 2),
+];
+
+const TURNS_LEFT: &[File] = &[
+    (
+        "j1/out/0/a@00000000000000000000-00000000000000000008.txt",
+        &["1\n2\n3\n4\n"],
+    ),
+    (
+        "j1/out/0/b@00000000000000000000-00000000000000000008.txt",
+        &["5\n6\n7\n8\n"],
+    ),
+    (
+        "j1/state",
+        &[
+            FIRST_RUN,
+            BEFORE_POLICIES,
+            NO_POLICIES,
+            BEHIND_POLICIES,
+            "totals 8 0 8 0
 branch 0 8 0 0
 partition a 8
 done 0 8 0
@@ -70,29 +78,30 @@ partition b 8
 done 0 8 0
 end
 ",
-            ],
-        ),
-        TWO_SLOTS,
-    ],
-};
+        ],
+    ),
+    TWO_SLOTS,
+];
 
-/// The third pull fails, which is the second one of `b`. In its next turn `b` begins anew; the turns go on as before.
-const ONE_FAILS: Case = Case {
-    fails: Fails {
-        pulls: &[2],
-        ..NO_FAILS
-    },
-    pulls: &[
-        ("b", 0, 3),
-        ("a", 0, 3),
-        ("a", 3, 3),
-        ("b", 0, 3),
-        ("a", 6, 2),
-        ("b", 3, 3),
-        ("b", 6, 2),
-    ],
-    ..IN_TURNS
-};
+/// Two units at a time, the second one first, in pieces that end in the middle of a line.
+fn check_turns(
+    rt: &impl Abort,
+    alloc: Global,
+    fails: Fails<'static>,
+    pulls: &'static [Pull],
+) -> Result<(), Fail> {
+    let case = Case {
+        words: RUN,
+        parts: &[("a", "1\n2\n3\n4\n"), ("b", "5\n6\n7\n8\n")],
+        files: &[TWO_SLOTS],
+        fails,
+        status: 0,
+        text: TURNS_TOLD,
+        pulls,
+        left: TURNS_LEFT,
+    };
+    check(rt, alloc, &case)
+}
 
 const WITH_A_KILL: File = (
     "jobs/j1.pull",
@@ -106,8 +115,10 @@ const WITH_A_KILL: File = (
 /// A unit that waits takes the slot of one that has ended, behind the units before it. The last unit in its turn is
 /// killed by its first line, and the second one isn't pulled.
 const ONE_WAITS: Case = Case {
+    words: RUN,
     parts: &[("a", "K\nb\n"), ("b", "5\n6\n"), ("c", "7\n")],
     files: &[WITH_A_KILL],
+    fails: NO_FAILS,
     status: 1,
     text: &[
         "job j1 policy successful
@@ -156,7 +167,6 @@ end
         ),
         WITH_A_KILL,
     ],
-    ..IN_TURNS
 };
 
 const ONE_RETRY: File = (
@@ -183,6 +193,7 @@ const TRIED_AGAIN: Case = Case {
         pulls: &[0],
         ..NO_FAILS
     },
+    status: 0,
     text: &[
         "job j17 policy successful
 unit a 0 2 committed records 1 bad 0 rows 1 unrouted 0
@@ -220,11 +231,13 @@ end
         ),
         ONE_RETRY,
     ],
-    ..IN_TURNS
 };
 
 /// It fails twice, and its unit is given up.
 const GIVEN_UP: Case = Case {
+    words: &["run", "j17"],
+    parts: &[("a", "x\n"), ("b", "x\n")],
+    files: &[ONE_RETRY],
     fails: Fails {
         pulls: &[0, 1],
         ..NO_FAILS
@@ -265,15 +278,28 @@ end
         ),
         ONE_RETRY,
     ],
-    ..TRIED_AGAIN
 };
 
-const CASES: [Case; 5] = [IN_TURNS, ONE_FAILS, ONE_WAITS, TRIED_AGAIN, GIVEN_UP];
+const ONE_PULL_FAILS: Fails<'static> = Fails {
+    pulls: &[2],
+    ..NO_FAILS
+};
 
 /// The source is asked as the schedule says, and whatever its order the files are the same.
 #[test]
 fn pulls_come_by_the_schedule(rt: HostRuntime) -> Result<(), Fail> {
-    for case in &CASES {
+    check_turns(&rt, rt.alloc(), NO_FAILS, IN_TURNS)?;
+    check_turns(&rt, rt.alloc(), ONE_PULL_FAILS, ONE_FAILS)
+}
+
+#[test]
+fn a_unit_that_waits_takes_a_slot_that_is_free(rt: HostRuntime) -> Result<(), Fail> {
+    check(&rt, rt.alloc(), &ONE_WAITS)
+}
+
+#[test]
+fn a_unit_is_tried_again_or_given_up(rt: HostRuntime) -> Result<(), Fail> {
+    for case in &[TRIED_AGAIN, GIVEN_UP] {
         check(&rt, rt.alloc(), case)?;
     }
     Ok(())
