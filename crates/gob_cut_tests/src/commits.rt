@@ -1,12 +1,13 @@
 //! Runs over a source in memory: what is cut behind a state, and the state after what was made of it.
 
 ghost use Rattle.std.specs.Prelude.{IfOk};
+ghost use Rattle.gob_ledger.specs.Spelling.{Proper};
 ghost use Rattle.gob_ledger.specs.Units.{UnitsFit};
 
 use crate::helpers::{Given, limits, push_number, same_text, source};
 use gob_cut::{Cut, units};
 use gob_marks::Marks;
-use gob_plan::{BranchCounts, Cause, CommitPolicy, Counts, List, NoMemory, Text, UnitResult};
+use gob_plan::{BranchCounts, Cause, CommitPolicy, Counts, List, NoMemory, Text, Unit, UnitResult};
 use gob_state::{State, next_state, read_state};
 use std::alloc::Global;
 use std::process::Abort;
@@ -209,25 +210,48 @@ fn cut(alloc: Global, parts: &[Given], before: &State) -> Result<Cut, Fail>
     Ok(cut)
 }
 
+/// The state after a run with these results, told in short.
+fn after_results(
+    alloc: Global,
+    case: &Case,
+    before: &State,
+    units: &[Unit],
+    results: &[UnitResult],
+) -> Result<Text, Fail>
+    requires proper { Proper before.now }
+    requires fits { UnitsFit before.now.parts units.now }
+{
+    if results.len() != units.len() {
+        return Err(Fail::from("other units are cut"));
+    }
+    let after = next_state(before, case.pipeline, units, results, case.policy)?;
+    let told = told(alloc, &after)?;
+    Ok(told)
+}
+
+/// The same after a run over these units.
+fn after_units(alloc: Global, case: &Case, before: &State, units: &[Unit]) -> Result<Text, Fail>
+    requires proper { Proper before.now }
+    requires fits { UnitsFit before.now.parts units.now }
+{
+    let results = results_of(alloc, case.made)?;
+    after_results(alloc, case, before, units, results.as_slice())
+}
+
+/// The same after a run behind this state.
+fn after_state(alloc: Global, case: &Case, before: &State) -> Result<Text, Fail>
+    requires proper { Proper before.now }
+{
+    let cut = cut(alloc, case.parts, before)?;
+    after_units(alloc, case, before, cut.units.as_slice())
+}
+
 /// The state after a run, told in short.
 fn after(alloc: Global, case: &Case) -> Result<Text, Fail> {
     let Some(before) = read_state(alloc, case.before)? else {
         return Err(Fail::from("there is no state"));
     };
-    let cut = cut(alloc, case.parts, &before)?;
-    let results = results_of(alloc, case.made)?;
-    if results.len() != cut.units.len() {
-        return Err(Fail::from("other units are cut"));
-    }
-    let after = next_state(
-        &before,
-        case.pipeline,
-        cut.units.as_slice(),
-        results.as_slice(),
-        case.policy,
-    )?;
-    let told = told(alloc, &after)?;
-    Ok(told)
+    after_state(alloc, case, &before)
 }
 
 fn told(alloc: Global, state: &State) -> Result<Text, NoMemory> {
