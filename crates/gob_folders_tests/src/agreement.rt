@@ -206,13 +206,19 @@ fn show_all<V: Volume>(alloc: Global, volume: &mut V, into: &mut Text) -> Option
     Some(())
 }
 
-// The answer to each step with what is there after it, a line for each.
+// The answer to a step with what is there after it.
+fn picture<V: Volume>(alloc: Global, volume: &mut V, step: Step<'_>) -> Option<Text> {
+    let mut picture = Text::new(alloc);
+    answer_of(alloc, volume, step, &mut picture)?;
+    show_all(alloc, volume, &mut picture)?;
+    Some(picture)
+}
+
+// A line for each step.
 fn pictures<V: Volume>(alloc: Global, volume: &mut V) -> Option<Vec<Text>> {
     let mut pictures = Vec::new(alloc);
-    for step in STEPS {
-        let mut picture = Text::new(alloc);
-        answer_of(alloc, volume, step, &mut picture)?;
-        show_all(alloc, volume, &mut picture)?;
+    for step in &STEPS {
+        let picture = picture(alloc, volume, *step)?;
         pictures.push(picture).ok()?;
     }
     Some(pictures)

@@ -176,20 +176,43 @@ fn a_path_that_is_too_long(rt: HostRuntime) {
     let _ = fs::remove_dir_all(&rt, room.as_str());
 }
 
+fn create(alloc: Global, folder: &mut KeptFolder<'_, HostRuntime>, number: u64) -> Option<()> {
+    let name = number.to_string(alloc).ok()?;
+    folder.create(name.as_str()).ok()
+}
+
+fn append(
+    alloc: Global,
+    folder: &mut KeptFolder<'_, HostRuntime>,
+    number: u64,
+    piece: &str,
+) -> Option<()> {
+    let name = number.to_string(alloc).ok()?;
+    folder.append(name.as_str(), piece.as_bytes()).ok()
+}
+
+// Whether the file holds both pieces.
+fn holds_both(
+    alloc: Global,
+    folder: &mut KeptFolder<'_, HostRuntime>,
+    number: u64,
+) -> Option<bool> {
+    let name = number.to_string(alloc).ok()?;
+    let bytes = folder.read(alloc, name.as_str()).ok()??;
+    Some(bytes.as_slice() == b"onetwo".as_slice())
+}
+
 // Appends to this many files in turn, and whether each then holds both pieces.
 fn is_kept(alloc: Global, folder: &mut KeptFolder<'_, HostRuntime>, files: u64) -> Option<bool> {
-    for piece in ["one", "two"] {
-        for number in 0..files {
-            let name = number.to_string(alloc).ok()?;
-            if piece == "one" {
-                folder.create(name.as_str()).ok()?;
-            }
-            folder.append(name.as_str(), piece.as_bytes()).ok()?;
-        }
+    for number in 0..files {
+        create(alloc, folder, number)?;
+        append(alloc, folder, number, "one")?;
     }
     for number in 0..files {
-        let name = number.to_string(alloc).ok()?;
-        if folder.read(alloc, name.as_str()).ok()??.as_slice() != b"onetwo".as_slice() {
+        append(alloc, folder, number, "two")?;
+    }
+    for number in 0..files {
+        if !holds_both(alloc, folder, number)? {
             return Some(false);
         }
     }

@@ -5,6 +5,7 @@ use crate::calls::is_answered;
 use crate::recorder::Recorder;
 use crate::room::{at, room};
 use gob_folders::KeptFolder;
+use std::alloc::Global;
 use std::fs;
 
 /// Where nothing is there yet.
@@ -99,26 +100,38 @@ const CHAIN: [Call<'static>; 11] = [
 
 const CHANGES: usize = 8;
 
-// Runs the chain while one call of the file system fails. Whether the call fails that it is made for, each one before
-// is answered, and where it was a sync no changing call is answered after. None: no memory, or there is no such call.
-fn is_told(rt: &HostRuntime, room: &str, fails: u64) -> Option<bool> {
-    let alloc = rt.alloc();
-    let recorder = Recorder::new(rt, room, Some(fails));
-    let mut folder = KeptFolder::new(&recorder, alloc, at(alloc, room, "work").ok()?);
+// What is made of a call of the chain: whether one of the file system had failed before it (by a sync), and has after
+// it. The call fails that it is made for, each one before is answered, and after a sync no changing call is.
+fn fits(before: Option<bool>, after: Option<bool>, answered: bool, number: usize) -> bool {
+    match before {
+        None => answered == after.is_none(),
+        Some(true) => !answered || number >= CHANGES,
+        Some(false) => true,
+    }
+}
+
+fn chain_fits(
+    alloc: Global,
+    recorder: &Recorder<'_>,
+    folder: &mut KeptFolder<'_, Recorder<'_>>,
+) -> Option<bool> {
     for number in 0..CHAIN.len() {
         let before = recorder.failed();
-        let answered = is_answered(alloc, &mut folder, CHAIN[number])?;
-        let fits = match (before, recorder.failed()) {
-            (None, after) => answered == after.is_none(),
-            (Some(true), _) => !answered || number >= CHANGES,
-            (Some(false), _) => true,
-        };
-        if !fits {
+        let answered = is_answered(alloc, folder, CHAIN[number])?;
+        if !fits(before, recorder.failed(), answered, number) {
             return Some(false);
         }
     }
     recorder.failed()?;
     Some(true)
+}
+
+// Runs the chain while one call of the file system fails. None: no memory, or there is no such call.
+fn is_told(rt: &HostRuntime, room: &str, fails: u64) -> Option<bool> {
+    let path = at(rt.alloc(), room, "work").ok()?;
+    let recorder = Recorder::new(rt, room, Some(fails));
+    let mut folder = KeptFolder::new(&recorder, rt.alloc(), path);
+    chain_fits(rt.alloc(), &recorder, &mut folder)
 }
 
 #[test]
