@@ -1,10 +1,11 @@
 //! A unit that is fed to a machine piece by piece, and what came of it, in short.
-ghost use Rattle.std.specs.Prelude.{◌≡◌, ◌≤◌, ◌+◌, ◌*◌, ◌^◌, length};
+ghost use Rattle.std.specs.Prelude.{◌≡◌, ◌≤◌, ◌+◌, ◌*◌, ◌^◌, length, true};
+ghost use Rattle.gob_meaning.specs.Plans.{is_fitting};
 
 use gob_job::read_job;
 use gob_pipeline::{Machine, Pipeline, Target, TargetBuffers, Workspace, target_at};
-use gob_plan::{Cause, NoMemory};
-use gob_props::read_props;
+use gob_plan::{Cause, NoMemory, Plan};
+use gob_props::{Props, read_props};
 use gob_text::push_u64;
 use std::alloc::Global;
 use std::process::Abort;
@@ -26,14 +27,25 @@ pub(crate) struct Bench {
     ghost slots: { length buffers ≡ 2 * length pipeline.branches + 1 },
 }
 
+fn built(alloc: Global, plan: &Plan) -> Result<Pipeline, Fail>
+    requires { is_fitting plan.now ≡ true }
+{
+    let pipeline = Pipeline::new(alloc, plan)?;
+    Ok(pipeline)
+}
+
+fn pipeline_in(alloc: Global, props: &Props) -> Result<Pipeline, Fail> {
+    match read_job(alloc, "j", props) {
+        Ok(job) => built(alloc, &job.plan),
+        Err(_) => Err(Fail::from("no job")),
+    }
+}
+
 /// The pipeline of a job file's text.
 pub(crate) fn pipeline_of(alloc: Global, job: &str) -> Result<Pipeline, Fail> {
-    let Ok(props) = read_props(alloc, job.as_bytes()) else {
-        return Err(Fail::from("no properties"));
-    };
-    match read_job(alloc, "j", &props) {
-        Ok(job) => Ok(Pipeline::new(alloc, &job.plan)?),
-        Err(_) => Err(Fail::from("no job")),
+    match read_props(alloc, job.as_bytes()) {
+        Ok(props) => pipeline_in(alloc, &props),
+        Err(_) => Err(Fail::from("no properties")),
     }
 }
 

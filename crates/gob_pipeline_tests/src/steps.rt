@@ -6,7 +6,7 @@ use crate::cuts::same_bytes;
 use gob_convert::Convert;
 use gob_job::read_job;
 use gob_plan::{Column, Columns, Kind, List, NoMemory, Refusal, StepFault, StepSpec, Text};
-use gob_props::read_props;
+use gob_props::{Props, read_props};
 use gob_steps::{StepsFault, steps_of};
 use gob_text::push_u64;
 use std::alloc::{AllocError, Global};
@@ -121,14 +121,23 @@ fn behind(alloc: Global, specs: &[StepSpec], columns: &Columns) -> Result<Vec<u8
     behind_few(alloc, specs, columns)
 }
 
+fn steps_come_to(alloc: Global, steps: &[StepSpec], columns: &Columns) -> Result<Vec<u8>, Fail> {
+    let text = behind(alloc, steps, columns)?;
+    Ok(text)
+}
+
+fn props_come_to(alloc: Global, props: &Props, columns: &Columns) -> Result<Vec<u8>, Fail> {
+    match read_job(alloc, "j", props) {
+        Ok(job) => steps_come_to(alloc, job.plan.steps.as_slice(), columns),
+        Err(_) => Err(Fail::from("no job")),
+    }
+}
+
 // Of a job's text the steps, on these columns.
 fn come_to(alloc: Global, job: &str, columns: &Columns) -> Result<Vec<u8>, Fail> {
-    let Ok(props) = read_props(alloc, job.as_bytes()) else {
-        return Err(Fail::from("no properties"));
-    };
-    match read_job(alloc, "j", &props) {
-        Ok(job) => Ok(behind(alloc, job.plan.steps.as_slice(), columns)?),
-        Err(_) => Err(Fail::from("no job")),
+    match read_props(alloc, job.as_bytes()) {
+        Ok(props) => props_come_to(alloc, &props, columns),
+        Err(_) => Err(Fail::from("no properties")),
     }
 }
 
