@@ -1,6 +1,7 @@
 //! Changes: what one is written as, which texts are one, and what a commit does to the files.
 
-ghost use Rattle.std.specs.Prelude.{◌≡◌, IfOk};
+ghost use Rattle.std.specs.Prelude.{◌≡◌, ◌≤◌, IfOk};
+ghost use Rattle.gob_ledger.specs.Delta.{StateFollows};
 ghost use Rattle.gob_ledger.specs.Spelling.{Proper};
 
 use crate::loads::{AFTER_2, BASE, CHANGE_2, CHANGE_3, OLD_BASE, OLD_CHANGE, SECOND, STATE};
@@ -80,6 +81,13 @@ fn reads_back(rt: &impl Abort, alloc: Global, before: &State, text: &[u8]) -> Re
     }
 }
 
+fn check_read_back(rt: &impl Abort, alloc: Global, before: &State, text: &[u8]) -> Result<(), Fail>
+    requires { Proper before.now }
+{
+    is_true(rt, reads_back(rt, alloc, before, text)?);
+    Ok(())
+}
+
 /// Half a line was whole in the second run.
 const HALF: &[u8] =
     b"gobblin-state 2\nrun 1\npipelines 1\npipeline 1\nx=1\ntotals 1 0 1 0\nbranch 0 1 0 0\npartition a.log 2\n\
@@ -95,7 +103,7 @@ const CHANGED: [(&[u8], &[u8]); 3] = [(BASE, CHANGE_2), (AFTER_2, CHANGE_3), (HA
 fn a_change_is_written_as_it_was_read(rt: HostRuntime) -> Result<(), Fail> {
     for (base, text) in CHANGED {
         let before = state_of(rt.alloc(), base)?;
-        is_true(&rt, reads_back(&rt, rt.alloc(), &before, text)?);
+        check_read_back(&rt, rt.alloc(), &before, text)?;
     }
     Ok(())
 }
@@ -158,14 +166,26 @@ fn read_with_byte(
 /// of counts, tells another change, or the same where the byte stood there.
 const BYTES: [u8; 8] = [b' ', b'\n', b'0', b'1', b'9', b'%', b'e', 255];
 
+fn changed_bytes_tell_few(
+    rt: &impl Abort,
+    alloc: Global,
+    before: &State,
+    text: &[u8],
+) -> Result<(), Fail>
+    requires { Proper before.now }
+{
+    for byte in BYTES {
+        let read = read_with_byte(rt, alloc, before, text, byte)?;
+        is_true(rt, read < text.len() as u64);
+    }
+    Ok(())
+}
+
 #[test]
 fn a_changed_byte_tells_another_change_or_none(rt: HostRuntime) -> Result<(), Fail> {
     for (base, text) in CHANGED {
         let before = state_of(rt.alloc(), base)?;
-        for byte in BYTES {
-            let read = read_with_byte(&rt, rt.alloc(), &before, text, byte)?;
-            is_true(&rt, read < text.len() as u64);
-        }
+        changed_bytes_tell_few(&rt, rt.alloc(), &before, text)?;
     }
     Ok(())
 }
@@ -179,15 +199,21 @@ fn is_old_change(alloc: Global, before: &State, text: &[u8]) -> Result<bool, Fai
     Ok(after.is_some())
 }
 
+fn only_the_whole_is_old_change(rt: &impl Abort, alloc: Global, before: &State) -> Result<(), Fail>
+    requires { Proper before.now }
+{
+    is_true(rt, is_old_change(alloc, before, OLD_CHANGE)?);
+    for len in 0..OLD_CHANGE.len() {
+        let (front, _) = OLD_CHANGE.split_at(len);
+        is_true(rt, !is_old_change(alloc, before, front)?);
+    }
+    Ok(())
+}
+
 #[test]
 fn a_change_of_the_first_version_is_whole(rt: HostRuntime) -> Result<(), Fail> {
     let before = state_of(rt.alloc(), OLD_BASE)?;
-    is_true(&rt, is_old_change(rt.alloc(), &before, OLD_CHANGE)?);
-    for len in 0..OLD_CHANGE.len() {
-        let (front, _) = OLD_CHANGE.split_at(len);
-        is_true(&rt, !is_old_change(rt.alloc(), &before, front)?);
-    }
-    Ok(())
+    only_the_whole_is_old_change(&rt, rt.alloc(), &before)
 }
 
 /// A state with so many done ranges, each of one byte.
@@ -212,8 +238,7 @@ fn a_change_is_as_long_as_what_changed(rt: HostRuntime) -> Result<(), Fail> {
     let change =
         b"gobblin-delta 2\nrun 2\npipelines 0\ntotals 1 0 1 0\nbranch 0 1 0 0\npartition a 200000\n\
             done 199999 200000 0\nend\n";
-    is_true(&rt, reads_back(&rt, rt.alloc(), &before, change)?);
-    Ok(())
+    check_read_back(&rt, rt.alloc(), &before, change)
 }
 
 /// A state after so many commits, and the change by the next one.
@@ -340,23 +365,38 @@ const CASES: [Case; 7] = [
     },
 ];
 
+fn change_to(before: State, after: &State, case: &Case) -> Result<StateChange, Fail>
+    requires before { Proper before }
+    requires counted { case.now.deltas ≤ before.run }
+    requires after { Proper after.now }
+    requires follows { StateFollows before after.now }
+{
+    let loaded = Loaded {
+        state: Some(before),
+        deltas: case.deltas,
+        version: case.version,
+    };
+    Ok(state_change("j1", &loaded, after)?)
+}
+
+fn change_behind(alloc: Global, before: State, case: &Case) -> Result<StateChange, Fail>
+    requires before { Proper before }
+    requires counted { case.now.deltas ≤ before.run }
+{
+    let same = copy_of(&before)?;
+    match apply_delta(alloc, Version::Second, same, case.change)? {
+        Some(after) => change_to(before, &after, case),
+        None => Err(Fail::from("this is no change behind the state")),
+    }
+}
+
 /// What a commit does to the files that tell a state, where the next state is that to which a change leads.
 fn change_of(alloc: Global, case: &Case) -> Result<StateChange, Fail> {
     let before = state_of(alloc, case.before)?;
     if case.deltas > before.run {
         return Err(Fail::from("there are more changes than commits"));
     }
-    let same = copy_of(&before)?;
-    let Some(after) = apply_delta(alloc, Version::Second, same, case.change)? else {
-        return Err(Fail::from("this is no change behind the state"));
-    };
-    let loaded = Loaded {
-        state: Some(before),
-        deltas: case.deltas,
-        version: case.version,
-    };
-    let change = state_change("j1", &loaded, &after)?;
-    Ok(change)
+    change_behind(alloc, before, case)
 }
 
 fn name_of(name: Option<&Text>) -> &str {
@@ -376,27 +416,40 @@ fn same_change(rt: &impl Abort, change: &StateChange, case: &Case) {
     same_number(rt, change.deltas, case.stand);
 }
 
-#[test]
-fn a_commit_adds_a_change_or_keeps_the_state_whole(rt: HostRuntime) -> Result<(), Fail> {
-    for case in &CASES {
-        let change = change_of(rt.alloc(), case)?;
-        same_change(&rt, &change, case);
-    }
+fn check_case(rt: &impl Abort, alloc: Global, case: &Case) -> Result<(), Fail> {
+    let change = change_of(alloc, case)?;
+    same_change(rt, &change, case);
     Ok(())
 }
 
 #[test]
-fn the_first_commit_keeps_the_state_whole(rt: HostRuntime) -> Result<(), Fail> {
+fn a_commit_adds_a_change_or_keeps_the_state_whole(rt: HostRuntime) -> Result<(), Fail> {
+    for case in &CASES {
+        check_case(&rt, rt.alloc(), case)?;
+    }
+    Ok(())
+}
+
+fn first_change(alloc: Global) -> Result<StateChange, Fail> {
+    let after = state_of(alloc, HALF)?;
     let loaded = Loaded {
         state: None,
         deltas: 0,
         version: 2,
     };
-    let after = state_of(rt.alloc(), HALF)?;
-    let change = state_change("j1", &loaded, &after)?;
-    same_text(&rt, change.target.as_str(), STATE);
-    same_bytes(&rt, change.bytes.as_slice(), HALF);
-    same_number(&rt, change.removes.len() as u64, 0);
-    same_number(&rt, change.deltas, 0);
+    Ok(state_change("j1", &loaded, &after)?)
+}
+
+fn keeps_half_whole(rt: &impl Abort, change: &StateChange) {
+    same_text(rt, change.target.as_str(), STATE);
+    same_bytes(rt, change.bytes.as_slice(), HALF);
+    same_number(rt, change.removes.len() as u64, 0);
+    same_number(rt, change.deltas, 0);
+}
+
+#[test]
+fn the_first_commit_keeps_the_state_whole(rt: HostRuntime) -> Result<(), Fail> {
+    let change = first_change(rt.alloc())?;
+    keeps_half_whole(&rt, &change);
     Ok(())
 }

@@ -1,7 +1,9 @@
 //! What is loaded of a state that is kept whole and the changes behind it, and which file is blamed.
 
+ghost use Rattle.gob_ledger.specs.Spelling.{Proper};
+
 use gob_segments::{LoadFault, load};
-use gob_state::write_state;
+use gob_state::{State, write_state};
 use gob_volume::MemVolume;
 use std::alloc::Global;
 use std::process::Abort;
@@ -112,6 +114,14 @@ fn volume_of(alloc: Global, files: &[(&str, &[u8])], fails: &[u64]) -> Result<Me
     Ok(volume)
 }
 
+fn is_written_as(rt: &impl Abort, state: &State, wanted: &[u8]) -> Result<(), Fail>
+    requires { Proper state.now }
+{
+    let text = write_state(state)?;
+    same_bytes(rt, text.as_slice(), wanted);
+    Ok(())
+}
+
 /// Loads the files, and compares what their state is written as, the number of changes and the version.
 fn loaded(
     rt: &impl Abort,
@@ -125,12 +135,10 @@ fn loaded(
     let loaded = load(alloc, &mut volume, "j1")?;
     same_number(rt, loaded.deltas, deltas);
     same_number(rt, loaded.version as u64, version as u64);
-    let Some(state) = &loaded.state else {
-        return Err(Fail::from("there is no state"));
-    };
-    let text = write_state(state)?;
-    same_bytes(rt, text.as_slice(), wanted);
-    Ok(())
+    match &loaded.state {
+        Some(state) => is_written_as(rt, state, wanted),
+        None => Err(Fail::from("there is no state")),
+    }
 }
 
 /// Loads the files, of which this one is to blame.
