@@ -99,11 +99,15 @@ const WHOLE: &[u8] =
 /// States, and a change behind each.
 const CHANGED: [(&[u8], &[u8]); 3] = [(BASE, CHANGE_2), (AFTER_2, CHANGE_3), (HALF, WHOLE)];
 
+fn check_change(rt: &impl Abort, alloc: Global, base: &[u8], text: &[u8]) -> Result<(), Fail> {
+    let before = state_of(alloc, base)?;
+    check_read_back(rt, alloc, &before, text)
+}
+
 #[test]
 fn a_change_is_written_as_it_was_read(rt: HostRuntime) -> Result<(), Fail> {
     for (base, text) in CHANGED {
-        let before = state_of(rt.alloc(), base)?;
-        check_read_back(&rt, rt.alloc(), &before, text)?;
+        check_change(&rt, rt.alloc(), base, text)?;
     }
     Ok(())
 }
@@ -181,11 +185,20 @@ fn changed_bytes_tell_few(
     Ok(())
 }
 
+fn check_changed_bytes(
+    rt: &impl Abort,
+    alloc: Global,
+    base: &[u8],
+    text: &[u8],
+) -> Result<(), Fail> {
+    let before = state_of(alloc, base)?;
+    changed_bytes_tell_few(rt, alloc, &before, text)
+}
+
 #[test]
 fn a_changed_byte_tells_another_change_or_none(rt: HostRuntime) -> Result<(), Fail> {
     for (base, text) in CHANGED {
-        let before = state_of(rt.alloc(), base)?;
-        changed_bytes_tell_few(&rt, rt.alloc(), &before, text)?;
+        check_changed_bytes(&rt, rt.alloc(), base, text)?;
     }
     Ok(())
 }
